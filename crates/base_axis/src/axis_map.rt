@@ -35,13 +35,13 @@ impl<A: Axis, V> MapKey<V> for LineKeys<A, V> {
 
     ghost fits = { IsLine A.along.last };
 
-    ghost made = { λ m. m };
+    ghost model = { λ m. m };
 
     ghost seen = { λ map. map };
 
-    ghost seen_made = { λ m. refl };
+    ghost seen_model = { λ m. refl };
 
-    ghost made_seen = { λ map. refl };
+    ghost model_seen = { λ map. refl };
 
     ghost ordered = { refl };
 }

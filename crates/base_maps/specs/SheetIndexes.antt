@@ -1,5 +1,5 @@
 -- Indexes of lists of sheets, and their order.
-use Rattle.std.proofs.Common.{ℕ, Bool, ◌&&◌, nat_eq, refl}
+use Rattle.std.proofs.Common.{ℕ, refl}
 use Rattle.std.specs.declared.cmp.Ordering.{Ordering}
 use Rattle.std.specs.Ordering.{nat_cmp, ordering_then}
 use Rattle.std.specs.Coded.{Coded, code_by, coded×, coded_ℕ}
@@ -12,7 +12,3 @@ sheet_index_cmp a b = ordering_then (nat_cmp a.sheet b.sheet) (nat_cmp a.index b
 -- as two numbers
 abbrev pub coded_sheet_index : Coded SheetIndex
 coded_sheet_index = code_by (ℕ × ℕ) (coded× coded_ℕ coded_ℕ) (λ p. (p.sheet, p.index)) (λ p. record { sheet = p.0; index = p.1 }) (λ _. refl)
-
--- whether two indexes are one
-abbrev pub same_sheet_index : SheetIndex → SheetIndex → Bool
-same_sheet_index a b = nat_eq a.sheet b.sheet && nat_eq a.index b.index

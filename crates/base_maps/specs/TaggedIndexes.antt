@@ -2,7 +2,6 @@
 use Rattle.std.specs.Prelude.{ℕ, List}
 use Rattle.std.specs.FinMap.{FinMap}
 use Rattle.std.specs.Ordering.{nat_cmp}
-use Rattle.base_values.specs.KeyMap.{put_under as put_keys_under}
 use Rattle.base_maps.specs.declared.sheet_index.SheetIndex.{SheetIndex}
 use Rattle.base_maps.specs.SheetIndexes.{sheet_index_cmp}
 use Rattle.base_maps.specs.Under.{all_under as all_keys_under}
@@ -10,10 +9,6 @@ use Rattle.base_maps.specs.Under.{all_under as all_keys_under}
 -- an index of the sheet of an id
 abbrev pub index_on : ℕ → ℕ → SheetIndex
 index_on id index = record { sheet = id; index = index }
-
--- the entries of a map, put one after another under the id of a sheet
-abbrev pub put_under : {X : Type 0} → ℕ → FinMap nat_cmp X → FinMap sheet_index_cmp X → FinMap sheet_index_cmp X
-put_under id m own = put_keys_under index_on id m own
 
 -- the maps of the items of a list, each under the id of its item
 abbrev pub all_under : {S X : Type 0} → (S → ℕ) → (S → FinMap nat_cmp X) → List S → FinMap sheet_index_cmp X

@@ -32,13 +32,13 @@ impl<V> MapKey<V> for NumberKeys<V> {
 
     ghost fits = { λ _. ⊤ };
 
-    ghost made = { λ m. m };
+    ghost model = { λ m. m };
 
     ghost seen = { λ map. map };
 
-    ghost seen_made = { λ m. refl };
+    ghost seen_model = { λ m. refl };
 
-    ghost made_seen = { λ map. refl };
+    ghost model_seen = { λ map. refl };
 
     ghost ordered = { refl };
 }

@@ -59,7 +59,7 @@ impl Style {
     /// The default style: no marks, size 13, no colours, no borders, the number format `general`,
     /// no alignment. The only error is `NoMemory`.
     pub fn new(alloc: Global) -> Result<Style, EditError>
-        ensures made { IfOk result (λ style. style ≡ default_style) }
+        ensures output { IfOk result (λ style. style ≡ default_style) }
         ensures only { IsOkUnless result NoMemory }
     {
         Ok(Style {

@@ -14,12 +14,12 @@ use Rattle.std.proofs.lemmas.Map.Entries.{entries_from_clone}
 use Rattle.std.proofs.lemmas.Map.Lookups.{CmpEqualImpliesEq}
 use Rattle.std.proofs.lemmas.Map.Views.{All-keys-insert_entry, All-map-remove_entry}
 use Rattle.base_values.specs.KeyMap.{with_entry, with_entries, same_entry, same_entries, IsInside}
-use Rattle.base_values.specs.laws.KeyMap.{get-made, entries-made, keys-made, with_entry-made, made_of_entries, inside_of_entries}
+use Rattle.base_values.specs.laws.KeyMap.{get-model, entries-model, keys-model, with_entry-model, made_of_entries, inside_of_entries}
 
 -- the code compares keys by S, whose equality is D. What contracts see stands for a map in the same order, R
 module _ {K X M : Type 0} {S R : K → K → Ordering} {D : K → K → Bool}
     (same : S ≡ R) (total : IsTotalOrder S) (equals : (a b : K) → Decides (D a b) (a ≡ b)) (ties : (a b : K) → D a b ≡ is_eq (S a b))
-    (made : FinMap R X → M) (seen : M → FinMap R X) (seen_made : (m : FinMap R X) → seen (made m) ≡ m) where
+    (model : FinMap R X → M) (seen : M → FinMap R X) (seen_model : (m : FinMap R X) → seen (model m) ≡ m) where
   total_seen : IsTotalOrder R
   total_seen = subst IsTotalOrder same total
 
@@ -29,38 +29,38 @@ module _ {K X M : Type 0} {S R : K → K → Ordering} {D : K → K → Bool}
   exact_seen : CmpEqualImpliesEq R
   exact_seen = subst CmpEqualImpliesEq same exact_code
 
-  module _ (n : BTreeMap K X) (map : M) (is : made (from_entries n.entries) ≡ map) where
+  module _ (n : BTreeMap K X) (map : M) (is : model (from_entries n.entries) ≡ map) where
     seen_is : from_entries n.entries ≡ seen map
-    seen_is = sym (seen_made (from_entries n.entries)) ∙ ap seen is
+    seen_is = sym (seen_model (from_entries n.entries)) ∙ ap seen is
 
     -- what the entries have at a key
     pub read : (key : K) (r : Option X) → r ≡ lookup (is_at (S key)) n.entries → r ≡ fin.get (seen map) key
     read key r found =
         found ∙ ap (λ (O : K → K → Ordering). lookup (is_at (O key)) n.entries) same
-        ∙ sym (get-made R total_seen exact_seen n.entries key) ∙ ap (λ m. fin.get m key) seen_is
+        ∙ sym (get-model R total_seen exact_seen n.entries key) ∙ ap (λ m. fin.get m key) seen_is
 
     -- entries that differ at one key
     pub changed : (o : BTreeMap K X) (key : K) (w : Option X)
         → ((q : K) → lookup (is_at (S q)) o.entries ≡ cond (is_at (S key) q) w (lookup (is_at (S q)) n.entries))
-        → seen (made (from_entries o.entries)) ≡ with_entry (seen map) key w
+        → seen (model (from_entries o.entries)) ≡ with_entry (seen map) key w
     changed o key w there =
-        seen_made (from_entries o.entries)
-        ∙ with_entry-made R total_seen exact_seen n.entries o.entries key w
+        seen_model (from_entries o.entries)
+        ∙ with_entry-model R total_seen exact_seen n.entries o.entries key w
         (subst (λ (O : K → K → Ordering). (q : K) → lookup (is_at (O q)) o.entries ≡ cond (is_at (O key) q) w (lookup (is_at (O q)) n.entries)) same there)
         ∙ ap (λ m. with_entry m key w) seen_is
 
     module _ (ordered : IsOrdered R n) where
       pub entries-seen : n.entries ≡ fin.entries (seen map)
-      entries-seen = sym (entries-made R total_seen exact_seen n.entries ordered) ∙ ap fin.entries seen_is
+      entries-seen = sym (entries-model R total_seen exact_seen n.entries ordered) ∙ ap fin.entries seen_is
 
       pub keys-seen : keys n ≡ fin.keys (seen map)
-      keys-seen = sym (keys-made total_seen exact_seen n ordered) ∙ ap fin.keys seen_is
+      keys-seen = sym (keys-model total_seen exact_seen n ordered) ∙ ap fin.keys seen_is
 
       pub len-seen : btree_map_len n ≡ fin.len (seen map)
       len-seen = ap length entries-seen ∙ sym (len-entries (seen map))
 
-  pub same-seen : (E : X → X → Bool) (n : BTreeMap K X) (map : M) → made (from_entries n.entries) ≡ map → IsOrdered R n
-      → (o : BTreeMap K X) (other : M) → made (from_entries o.entries) ≡ other → IsOrdered R o
+  pub same-seen : (E : X → X → Bool) (n : BTreeMap K X) (map : M) → model (from_entries n.entries) ≡ map → IsOrdered R n
+      → (o : BTreeMap K X) (other : M) → model (from_entries o.entries) ≡ other → IsOrdered R o
       → pointwise (same_entry D E) n.entries o.entries ≡ same_entries D E (seen map) (seen other)
   same-seen E n map is ordered o other is_too ordered_too =
       λ i. pointwise (same_entry D E) (entries-seen n map is ordered i) (entries-seen o other is_too ordered_too i)
@@ -70,11 +70,11 @@ module _ {K X M : Type 0} {S R : K → K → Ordering} {D : K → K → Bool}
     gathered_seen : IsFromIterResult R es n
     gathered_seen = subst (λ (O : K → K → Ordering). IsFromIterResult O es n) same gathered
 
-    pub made-seen : seen (made (from_entries n.entries)) ≡ with_entries fin.empty es
-    made-seen = seen_made (from_entries n.entries) ∙ made_of_entries R total_seen exact_seen es n gathered_seen
+    pub model-seen : seen (model (from_entries n.entries)) ≡ with_entries fin.empty es
+    model-seen = seen_model (from_entries n.entries) ∙ made_of_entries R total_seen exact_seen es n gathered_seen
 
-    pub inside-made : All (λ e. P e.0) es → IsInside R P n
-    inside-made all = inside_of_entries R total_seen exact_seen P es n all gathered_seen
+    pub inside-model : All (λ e. P e.0) es → IsInside R P n
+    inside-model all = inside_of_entries R total_seen exact_seen P es n all gathered_seen
 
 -- the keys lie inside after a change
 module _ {K X : Type 0} {S R : K → K → Ordering} (same : S ≡ R) (P : K → Type 0) (n o : BTreeMap K X) (inside : IsInside R P n) (ordered : IsOrdered S o) where

@@ -31,14 +31,14 @@ pub trait MapKey<V> {
     ghost fits: { Self.Key → Type 0 };
 
     /// What stands for a finite map.
-    ghost made: { fin.FinMap order V → Self };
+    ghost model: { fin.FinMap order V → Self };
 
     /// And back.
     ghost seen: { Self → fin.FinMap order V };
 
-    ghost seen_made: { (m : fin.FinMap order V) → seen (made m) ≡ m };
+    ghost seen_model: { (m : fin.FinMap order V) → seen (model m) ≡ m };
 
-    ghost made_seen: { (map : Self) → made (seen map) ≡ map };
+    ghost model_seen: { (map : Self) → model (seen map) ≡ map };
 
     ghost ordered: { Self.Key.cmp ≡ order };
 }
@@ -72,7 +72,7 @@ impl<K: MapKey<V>, V> Model for KeyMap<K, V> {
 
     ghost coded = { K.code };
 
-    ghost view = { λ a. K.made (fin.from_entries a.map.entries) };
+    ghost view = { λ a. K.model (fin.from_entries a.map.entries) };
 
     ghost invariant = { λ a. IsInside K.order K.fits a.map };
 }
@@ -229,5 +229,5 @@ impl<K: MapKey<V>, V: Exact> Exact for KeyMap<K, V> {
 
     ghost copies = { λ a b h. h };
 
-    ghost equals = { same_seen_decides K.made K.seen K.made_seen K.Key.equals V.equals };
+    ghost equals = { same_seen_decides K.model K.seen K.model_seen K.Key.equals V.equals };
 }

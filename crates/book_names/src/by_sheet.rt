@@ -30,12 +30,12 @@ pub fn changed_sheets<C: SheetChange>(
     sheets: &[Worksheet],
 ) -> Result<Items<Worksheet>, EditError>
     requires { C.Asks change.now }
-    ensures sheets { IfOk result (λ made. made ≡ map (C.change change.now) sheets.now) }
+    ensures sheets { IfOk result (λ output. output ≡ map (C.change change.now) sheets.now) }
     ensures only { IsOkUnless result NoMemory }
 {
-    let mut made = Items::empty(alloc);
+    let mut output = Items::empty(alloc);
     for sheet in sheets {
-        made.push(change.changed(alloc, sheet)?)?;
+        output.push(change.changed(alloc, sheet)?)?;
     }
-    Ok(made)
+    Ok(output)
 }

@@ -167,14 +167,14 @@ impl<'r> CellChange for Returned<'r> {
 
 /// Puts a cell behind others, at its place.
 fn put_last(
-    made: &mut Items<(Position, Shared<Cell>)>,
+    output: &mut Items<(Position, Shared<Cell>)>,
     place: Position,
     cell: Shared<Cell>,
 ) -> Result<(), EditError>
-    ensures made { OnOk result (made.new ≡ made.old ++ (place, cell) ∷ []) }
+    ensures output { OnOk result (output.new ≡ output.old ++ (place, cell) ∷ []) }
     ensures only { IsOkUnless result NoMemory }
 {
-    made.push((place, cell))?;
+    output.push((place, cell))?;
     Ok(())
 }
 
@@ -184,15 +184,15 @@ pub(crate) fn changed_cells<C: CellChange>(
     change: &C,
     cells: &PlaceMap<Shared<Cell>>,
 ) -> Result<PlaceMap<Shared<Cell>>, EditError>
-    ensures cells { IfOk result (λ made. made ≡ carried_map Some (λ _ place cell. C.change change.now place cell) cells.now) }
+    ensures cells { IfOk result (λ output. output ≡ carried_map Some (λ _ place cell. C.change change.now place cell) cells.now) }
     ensures only { IsOkUnless result NoMemory }
 {
     // For the proof: what lies inside.
     places_inside(cells);
-    let mut made = Items::empty(alloc);
+    let mut output = Items::empty(alloc);
     for (place, cell) in cells.iter() {
         let changed = change.changed(alloc, *place, cell)?;
-        put_last(&mut made, *place, changed)?;
+        put_last(&mut output, *place, changed)?;
     }
-    PlaceMap::of_entries(alloc, made)
+    PlaceMap::of_entries(alloc, output)
 }

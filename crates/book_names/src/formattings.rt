@@ -49,7 +49,7 @@ fn renamed_formatting(
     old: &str,
     new: &Shared<Text>,
 ) -> Result<ConditionalFormatting, EditError>
-    ensures formatting { IfOk result (λ made. made ≡ formatting_renamed reach old.now new.now formatting.now) }
+    ensures formatting { IfOk result (λ output. output ≡ formatting_renamed reach old.now new.now formatting.now) }
     ensures only { IsOkUnless result NoMemory }
 {
     let change = RenamedTrees {
@@ -73,15 +73,15 @@ fn formattings_renamed(
     old: &str,
     new: &Shared<Text>,
 ) -> Result<Items<ConditionalFormatting>, EditError>
-    ensures formattings { IfOk result (λ made. made ≡ formattings_renamed reach old.now new.now formattings.now) }
+    ensures formattings { IfOk result (λ output. output ≡ formattings_renamed reach old.now new.now formattings.now) }
     ensures only { IsOkUnless result NoMemory }
 {
-    let mut made = Items::empty(alloc);
+    let mut output = Items::empty(alloc);
     for formatting in formattings {
         let renamed = renamed_formatting(alloc, formatting, reach, old, new)?;
-        made.push(renamed)?;
+        output.push(renamed)?;
     }
-    Ok(made)
+    Ok(output)
 }
 
 /// The conditional rules of a sheet, renamed.
@@ -92,7 +92,7 @@ pub(crate) fn renamed_rules(
     old: &str,
     new: &Shared<Text>,
 ) -> Result<RuleList, EditError>
-    ensures rules { IfOk result (λ made. made ≡ formattings_renamed reach old.now new.now rules.now) }
+    ensures rules { IfOk result (λ output. output ≡ formattings_renamed reach old.now new.now rules.now) }
     ensures only { IsOkUnless result NoMemory }
 {
     let renamed = formattings_renamed(alloc, rules.as_slice(), reach, old, new)?;
@@ -116,7 +116,7 @@ fn renamed_to(
     old: &Shared<Text>,
     new: &Shared<Text>,
 ) -> Result<ConditionalFormatting, EditError>
-    ensures formatting { IfOk result (λ made. made ≡ formatting_renamed reach old.now new.now formatting.now) }
+    ensures formatting { IfOk result (λ output. output ≡ formatting_renamed reach old.now new.now formatting.now) }
     ensures only { IsOkUnless result NoMemory }
 {
     renamed_formatting(alloc, formatting, reach, old.get().as_str(), new)
@@ -128,12 +128,12 @@ fn there_and_back(
     formatting: &ConditionalFormatting,
     ways: &BothWays<'_>,
 ) -> Result<ConditionalFormatting, EditError>
-    ensures formatting { IfOk result (λ made. made ≡ formatting_renamed ways.now.back ways.now.new.now ways.now.old.now
+    ensures formatting { IfOk result (λ output. output ≡ formatting_renamed ways.now.back ways.now.new.now ways.now.old.now
         (formatting_renamed ways.now.there ways.now.old.now ways.now.new.now formatting.now)) }
     ensures only { IsOkUnless result NoMemory }
 {
-    let made = renamed_to(alloc, formatting, ways.there, ways.old, ways.new)?;
-    renamed_to(alloc, &made, ways.back, ways.new, ways.old)
+    let output = renamed_to(alloc, formatting, ways.there, ways.old, ways.new)?;
+    renamed_to(alloc, &output, ways.back, ways.new, ways.old)
 }
 
 /// A conditional rule, where the opposite renaming does not give it.
@@ -224,8 +224,8 @@ fn formatting_at(
     formatting: &ConditionalFormatting,
     change: &Returned<'_>,
 ) -> Result<ConditionalFormatting, EditError>
-    ensures formatting { IfOk result (λ made.
-        made ≡ restored_at (formatting_renamed change.now.reach change.now.after.now change.now.before.now) (λ _ own. own)
+    ensures formatting { IfOk result (λ output.
+        output ≡ restored_at (formatting_renamed change.now.reach change.now.after.now change.now.before.now) (λ _ own. own)
         (formattings_under change.now.kept.now change.now.id) (place, formatting.now)) }
     ensures only { IsOkUnless result NoMemory }
 {
@@ -249,15 +249,15 @@ fn formattings_back(
     formattings: &[ConditionalFormatting],
     change: &Returned<'_>,
 ) -> Result<Items<ConditionalFormatting>, EditError>
-    ensures formattings { IfOk result (λ made.
-        made ≡ formattings_back change.now.reach change.now.before.now change.now.after.now (formattings_under change.now.kept.now change.now.id) formattings.now) }
+    ensures formattings { IfOk result (λ output.
+        output ≡ formattings_back change.now.reach change.now.before.now change.now.after.now (formattings_under change.now.kept.now change.now.id) formattings.now) }
     ensures only { IsOkUnless result NoMemory }
 {
-    let mut made = Items::empty(alloc);
+    let mut output = Items::empty(alloc);
     for (place, formatting) in formattings.iter().enumerate() {
-        made.push(formatting_at(alloc, place, formatting, change)?)?;
+        output.push(formatting_at(alloc, place, formatting, change)?)?;
     }
-    Ok(made)
+    Ok(output)
 }
 
 /// The conditional rules of a sheet, as they are kept, else renamed back as far as the renaming
@@ -268,8 +268,8 @@ pub(crate) fn rules_back(
     change: &Returned<'_>,
 ) -> Result<RuleList, EditError>
     requires { AreCanonicalTrees change.now.kept.now }
-    ensures rules { IfOk result (λ made.
-        made ≡ formattings_back change.now.reach change.now.before.now change.now.after.now (formattings_under change.now.kept.now change.now.id) rules.now) }
+    ensures rules { IfOk result (λ output.
+        output ≡ formattings_back change.now.reach change.now.before.now change.now.after.now (formattings_under change.now.kept.now change.now.id) rules.now) }
     ensures only { IsOkUnless result NoMemory }
 {
     let back = formattings_back(alloc, rules.as_slice(), change)?;

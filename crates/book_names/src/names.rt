@@ -41,7 +41,7 @@ pub(crate) fn renamed_tree(
 
 /// A defined name with that tree in place of its own.
 fn with_formula(name: &DefinedName, formula: Shared<Node>) -> Result<DefinedName, EditError>
-    ensures name { IfOk result (λ made. made ≡ record name.now { formula = formula }) }
+    ensures name { IfOk result (λ output. output ≡ record name.now { formula = formula }) }
     ensures only { IsOkUnless result NoMemory }
 {
     Ok(DefinedName {
@@ -58,7 +58,7 @@ fn renamed_name(
     old: &str,
     new: &Shared<Text>,
 ) -> Result<DefinedName, EditError>
-    ensures name { IfOk result (λ made. made ≡ defined_renamed reach old.now new.now name.now) }
+    ensures name { IfOk result (λ output. output ≡ defined_renamed reach old.now new.now name.now) }
     ensures only { IsOkUnless result NoMemory }
 {
     let formula = renamed_tree(alloc, &name.formula, reach, old, new)?;
@@ -71,15 +71,15 @@ fn names_renamed(
     old: &str,
     new: &Shared<Text>,
 ) -> Result<Items<DefinedName>, EditError>
-    ensures names { IfOk result (λ made. made ≡ map (defined_renamed Sheets old.now new.now) names.now) }
+    ensures names { IfOk result (λ output. output ≡ map (defined_renamed Sheets old.now new.now) names.now) }
     ensures only { IsOkUnless result NoMemory }
 {
-    let mut made = Items::empty(alloc);
+    let mut output = Items::empty(alloc);
     for name in names {
         let renamed = renamed_name(alloc, name, Reach::Sheets, old, new)?;
-        made.push(renamed)?;
+        output.push(renamed)?;
     }
-    Ok(made)
+    Ok(output)
 }
 
 /// A defined name with the tree that is kept of it, if there is one, else renamed back.
@@ -110,7 +110,7 @@ fn name_at(
     old: &Shared<Text>,
     new: &str,
 ) -> Result<DefinedName, EditError>
-    ensures name { IfOk result (λ made. made ≡ restored_at (defined_renamed reach new.now old.now) with_kept_tree (get kept.now) (place, name.now)) }
+    ensures name { IfOk result (λ output. output ≡ restored_at (defined_renamed reach new.now old.now) with_kept_tree (get kept.now) (place, name.now)) }
     ensures only { IsOkUnless result NoMemory }
 {
     name_back(alloc, name, kept.get(place as u64), reach, old, new)
@@ -124,14 +124,14 @@ fn names_back(
     old: &Shared<Text>,
     new: &str,
 ) -> Result<Items<DefinedName>, EditError>
-    ensures names { IfOk result (λ made. made ≡ names_back reach old.now new.now (get kept.now) names.now) }
+    ensures names { IfOk result (λ output. output ≡ names_back reach old.now new.now (get kept.now) names.now) }
     ensures only { IsOkUnless result NoMemory }
 {
-    let mut made = Items::empty(alloc);
+    let mut output = Items::empty(alloc);
     for (place, name) in names.iter().enumerate() {
-        made.push(name_at(alloc, place, name, kept, reach, old, new)?)?;
+        output.push(name_at(alloc, place, name, kept, reach, old, new)?)?;
     }
-    Ok(made)
+    Ok(output)
 }
 
 /// Keeps the tree of a defined name under its place in the list, where the opposite renaming does not
@@ -176,7 +176,7 @@ pub(crate) fn renamed_list(
     old: &str,
     new: &Shared<Text>,
 ) -> Result<NameList, EditError>
-    ensures names { IfOk result (λ made. made ≡ map (defined_renamed Sheets old.now new.now) names.now) }
+    ensures names { IfOk result (λ output. output ≡ map (defined_renamed Sheets old.now new.now) names.now) }
     ensures only { IsOkUnless result NoMemory }
 {
     let renamed = names_renamed(alloc, names.as_slice(), old, new)?;
@@ -194,7 +194,7 @@ pub fn list_back(
     new: &str,
 ) -> Result<NameList, EditError>
     requires { AreCanonicalFormulas kept.now }
-    ensures names { IfOk result (λ made. made ≡ names_back reach old.now new.now (get kept.now) names.now) }
+    ensures names { IfOk result (λ output. output ≡ names_back reach old.now new.now (get kept.now) names.now) }
     ensures only { IsOkUnless result NoMemory }
 {
     let back = names_back(alloc, names.as_slice(), kept, reach, old, new)?;

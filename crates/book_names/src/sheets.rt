@@ -29,7 +29,7 @@ fn with_formulas(
     rules: RuleList,
 ) -> Result<Worksheet, EditError>
     requires { CanonicalCells cells }
-    ensures sheet { IfOk result (λ made. made ≡ record sheet.now { cells = cells; formattings = rules }) }
+    ensures sheet { IfOk result (λ output. output ≡ record sheet.now { cells = cells; formattings = rules }) }
     ensures only { IsOkUnless result NoMemory }
 {
     sheet.with_entries(
@@ -51,7 +51,7 @@ pub fn with_formulas_renamed(
     old: &str,
     new: &Shared<Text>,
 ) -> Result<Worksheet, EditError>
-    ensures sheet { IfOk result (λ made. made ≡ record sheet.now {
+    ensures sheet { IfOk result (λ output. output ≡ record sheet.now {
       cells = cells_renamed reach old.now new.now sheet.now.cells;
       formattings = formattings_renamed reach old.now new.now sheet.now.formattings;
     }) }
@@ -78,7 +78,7 @@ pub fn with_formulas_back(
     kept: &KeptTrees,
 ) -> Result<Worksheet, EditError>
     requires { AreCanonicalTrees kept.now }
-    ensures sheet { IfOk result (λ made. made ≡ record sheet.now {
+    ensures sheet { IfOk result (λ output. output ≡ record sheet.now {
       cells = cells_back reach old.now new.now (kept_under kept.now sheet.now.id) sheet.now.cells;
       formattings = formattings_back reach old.now new.now (formattings_under kept.now sheet.now.id) sheet.now.formattings;
     }) }
@@ -98,7 +98,7 @@ pub fn with_formulas_back(
 
 /// A sheet that has that name where its id is that one.
 fn with_name_at(mut sheet: Worksheet, id: u32, name: &str) -> Result<Worksheet, EditError>
-    ensures sheet { IfOk result (λ made. made ≡ record sheet { name = if sheet.id == id then name.now else sheet.name }) }
+    ensures sheet { IfOk result (λ output. output ≡ record sheet { name = if sheet.id == id then name.now else sheet.name }) }
     ensures only { IsOkUnless result NoMemory }
 {
     if sheet.get_sheet_id() == id {
@@ -124,8 +124,8 @@ impl<'r> SheetChange for RenamedSheets<'r> {
     ghost change = { λ self. sheet_renamed self.id self.old.now self.new.now };
 
     fn changed(&self, alloc: Global, sheet: &Worksheet) -> Result<Worksheet, EditError> {
-        let made = with_formulas_renamed(alloc, sheet, Reach::Sheets, self.old, self.new)?;
-        with_name_at(made, self.id, self.new.get().as_str())
+        let output = with_formulas_renamed(alloc, sheet, Reach::Sheets, self.old, self.new)?;
+        with_name_at(output, self.id, self.new.get().as_str())
     }
 }
 
@@ -148,8 +148,8 @@ impl<'r> SheetChange for SheetsBack<'r> {
 
     fn changed(&self, alloc: Global, sheet: &Worksheet) -> Result<Worksheet, EditError> {
         let (old, new) = (self.old, self.new);
-        let made = with_formulas_back(alloc, sheet, Reach::Sheets, old, new, self.kept)?;
-        with_name_at(made, self.id, old.get().as_str())
+        let output = with_formulas_back(alloc, sheet, Reach::Sheets, old, new, self.kept)?;
+        with_name_at(output, self.id, old.get().as_str())
     }
 }
 
@@ -169,12 +169,12 @@ pub fn with_lists(
     sheets: Items<Worksheet>,
     names: NameList,
 ) -> Result<Workbook, EditError>
-    ensures book { IfOk result (λ made. made ≡ record workbook.now { names = names; worksheets = sheets }) }
+    ensures book { IfOk result (λ output. output ≡ record workbook.now { names = names; worksheets = sheets }) }
     ensures only { IsOkUnless result NoMemory }
 {
-    let mut made = workbook.with_worksheets(sheets)?;
-    made.set_name_list(names);
-    Ok(made)
+    let mut output = workbook.with_worksheets(sheets)?;
+    output.set_name_list(names);
+    Ok(output)
 }
 
 /// The workbook whose sheet of an id is renamed: each tree of its sheets, of their conditional rules and
@@ -187,7 +187,7 @@ pub(crate) fn book_renamed(
     new: &str,
 ) -> Result<Workbook, EditError>
     requires { IsPlacedBook workbook.now }
-    ensures book { IfOk result (λ made. made ≡ book_renamed id old.now new.now workbook.now) }
+    ensures book { IfOk result (λ output. output ≡ book_renamed id old.now new.now workbook.now) }
     ensures placed { IfOk result IsPlacedBook }
     ensures only { IsOkUnless result NoMemory }
 {
@@ -211,7 +211,7 @@ pub(crate) fn book_back(
     requires placed { IsPlacedBook workbook.now }
     requires numbers { AreCanonicalTrees kept.now }
     requires trees { ArePlacedTrees kept.now }
-    ensures book { IfOk result (λ made. made ≡ book_back id old.now new.now kept.now workbook.now) }
+    ensures book { IfOk result (λ output. output ≡ book_back id old.now new.now kept.now workbook.now) }
     ensures placed { IfOk result IsPlacedBook }
     ensures only { IsOkUnless result NoMemory }
 {

@@ -24,8 +24,8 @@ edits_as (Ok u) old next expected other same h = record { done = same ∙ h.done
 edits_as (Err e) old next expected other same h = record { done = tt; refused = (h.refused.0, λ known. same ∙ h.refused.1 known) }
 
 -- one that is not changed where a value was expected
-pub not_changed : {S : Type 0} (error : EditError) (old next later last : S) (made : Result S EditError) → made ≡ Ok later → Changes (Err error) old next made → Changes (Err error) old next (Ok last)
-not_changed error old next later last made is h =
+pub not_changed : {S : Type 0} (error : EditError) (old next later last : S) (output : Result S EditError) → output ≡ Ok later → Changes (Err error) old next output → Changes (Err error) old next (Ok last)
+not_changed error old next later last output is h =
     record { done = tt; refused = (h.refused.0, λ known. (let never : ◌≡◌ {A = Result _ EditError} (Ok later) (Err error) = sym is ∙ h.refused.1 known in absurd (cc))); memory = λ none. refl }
 
 -- ---- where a sheet is

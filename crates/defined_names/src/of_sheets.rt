@@ -75,7 +75,7 @@ fn kept_names(
 
 /// The same name, known in the sheet of an id.
 fn name_in(name: &DefinedName, sheet_id: u32) -> Result<DefinedName, EditError>
-    ensures name { IfOk result (λ made. made ≡ name_in sheet_id name.now) }
+    ensures name { IfOk result (λ output. output ≡ name_in sheet_id name.now) }
     ensures only { IsOkUnless result NoMemory }
 {
     Ok(DefinedName {

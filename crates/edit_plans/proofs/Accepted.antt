@@ -62,7 +62,7 @@ use Rattle.range_styles.specs.declared.Clearing.{Clearing}
 use Rattle.range_styles.specs.declared.SheetPlan.{SheetPlan}
 use Rattle.range_styles.specs.declared.StyleRange.{StyleRange}
 use Rattle.range_styles.specs.Clearing.{clear_area, clear_plan}
-use Rattle.range_styles.specs.Styled.{Accepts, Made, all_accept, planned_styles, style_plan}
+use Rattle.range_styles.specs.Styled.{Accepts, StyleAt, all_accept, planned_styles, style_plan}
 use Rattle.range_styles.specs.Tiles.{tiles}
 use Rattle.entry_records.specs.SheetPlans.{with_plan}
 use Rattle.entry_records.specs.laws.AtIndex.{keeps}
@@ -91,11 +91,11 @@ edited w index edit later how = on_index (sheet_at w index) refl how
     on_index (Err error) at e = absurd (let never : ◌≡◌ {A = Result Book EditError} (Err error) (Ok later) = e in cc)
 
 -- a record of the workbook that an edit leaves is one of the later workbook
-has_record : (w : Book) (index : ℕ) (next made : Sheet) (later : Book) (list : List Diff) → ◌≡◌ {A = Result Sheet EditError} (Ok made) (Ok next) → with_sheet w index next ≡ later
-    → IsRecord w (with_sheet w index made) list → IsWellFormed (with_sheet w index made) → HasRecord w later
-has_record w index next made later list done is exact rules =
-    let same : made ≡ next = cc in
-    let book : with_sheet w index made ≡ later = ap (with_sheet w index) same ∙ is in
+has_record : (w : Book) (index : ℕ) (next output : Sheet) (later : Book) (list : List Diff) → ◌≡◌ {A = Result Sheet EditError} (Ok output) (Ok next) → with_sheet w index next ≡ later
+    → IsRecord w (with_sheet w index output) list → IsWellFormed (with_sheet w index output) → HasRecord w later
+has_record w index next output later list done is exact rules =
+    let same : output ≡ next = cc in
+    let book : with_sheet w index output ≡ later = ap (with_sheet w index) same ∙ is in
     record { list = list; exact = subst (λ b. IsRecord w b list) book exact; rules = subst IsWellFormed book rules }
 
 module _ (index : ℕ) (row column : ℤ) where
@@ -172,21 +172,21 @@ field_has_record index value w later rules how =
     (field_exact w index value may rules it.sheet it.at) (field_well_formed w index value may rules it.sheet it.at)
 
 attrs_has_record : (index : ℕ) (axis : LineAxis) (first last : ℤ) (change : Result LineChange EditError) (w later : Book) → IsWellFormed w
-    → IfOk change (λ made. change_fits axis made ≡ true) → attrs_set index axis first last change w ≡ Ok later → HasRecord w later
+    → IfOk change (λ output. change_fits axis output ≡ true) → attrs_set index axis first last change w ≡ Ok later → HasRecord w later
 unfolding attrs_set
 attrs_has_record index axis first last change w later rules fits how =
     let it = edited w index (attrs_in axis first last change) later how in
     go it.sheet it.next it.at it.later_is (lines_from (along_of axis).last first last) refl change fits it.done
   where
     go : (sheet next : Sheet) → sheet_at w index ≡ Ok sheet → with_sheet w index next ≡ later → (r : Result ℕ EditError) → lines_from (along_of axis).last first last ≡ r
-        → (made : Result LineChange EditError) → IfOk made (λ change. change_fits axis change ≡ true)
-        → and_then r (λ count. map_ok (λ change. lines_set axis change first count sheet) made) ≡ Ok next → HasRecord w later
+        → (output : Result LineChange EditError) → IfOk output (λ change. change_fits axis change ≡ true)
+        → and_then r (λ count. map_ok (λ change. lines_set axis change first count sheet) output) ≡ Ok next → HasRecord w later
     go sheet next at is (Ok count) from (Ok change) fits e =
         has_record w index next (lines_set axis change first count sheet) later _ e is
         (attrs_exact w rules index sheet at axis change fits first count (lines_inside (along_of axis).last first last count from))
         (attrs_well_formed w rules index sheet at axis change fits first count (lines_inside (along_of axis).last first last count from))
     go sheet next at is (Ok count) from (Err error) fits e = absurd (let never : ◌≡◌ {A = Result Sheet EditError} (Err error) (Ok next) = e in cc)
-    go sheet next at is (Err error) from made fits e = absurd (let never : ◌≡◌ {A = Result Sheet EditError} (Err error) (Ok next) = e in cc)
+    go sheet next at is (Err error) from output fits e = absurd (let never : ◌≡◌ {A = Result Sheet EditError} (Err error) (Ok next) = e in cc)
 
 -- a plan of a sheet that was carried out, if none was refused
 planned_has_record : (w later : Book) (rules : IsWellFormed w) (index : ℕ) (sheet next : Sheet) (at : sheet_at w index ≡ Ok sheet) → with_sheet w index next ≡ later
@@ -196,13 +196,13 @@ planned_has_record w later rules index sheet next at is plan keeping done =
 
 -- styles that are changed in a rectangle
 changed_has_record : (w later : Book) (rules : IsWellFormed w) (index : ℕ) (sheet next : Sheet) (at : sheet_at w index ≡ Ok sheet) → with_sheet w index next ≡ later
-    → (range : StyleRange) → IsInside range.area → (made : Made) → IsSized made → (accepts : Accepts) (refusal : EditError)
-    → planned_in sheet (planned_styles range made accepts refusal sheet) ≡ Ok next → HasRecord w later
+    → (range : StyleRange) → IsInside range.area → (output : StyleAt) → IsSized output → (accepts : Accepts) (refusal : EditError)
+    → planned_in sheet (planned_styles range output accepts refusal sheet) ≡ Ok next → HasRecord w later
 unfolding planned_styles
-changed_has_record w later rules index sheet next at is range inside made sized accepts refusal done = go (all_accept range accepts sheet) done
+changed_has_record w later rules index sheet next at is range inside output sized accepts refusal done = go (all_accept range accepts sheet) done
   where
-    go : (b : Bool) → planned_in sheet (cond b (Ok (style_plan range made sheet)) (Err refusal)) ≡ Ok next → HasRecord w later
-    go true e = planned_has_record w later rules index sheet next at is (style_plan range made sheet) (styled_keeps range inside made sized sheet (keeps w rules index sheet at)) e
+    go : (b : Bool) → planned_in sheet (cond b (Ok (style_plan range output sheet)) (Err refusal)) ≡ Ok next → HasRecord w later
+    go true e = planned_has_record w later rules index sheet next at is (style_plan range output sheet) (styled_keeps range inside output sized sheet (keeps w rules index sheet at)) e
     go false e = absurd (let never : ◌≡◌ {A = Result Sheet EditError} (Err refusal) (Ok next) = e in cc)
 
 styles_has_record : (index : ℕ) (r : MergedCell) (path value : List ℕ) (w later : Book) → IsWellFormed w → styles_set index r path value w ≡ Ok later → HasRecord w later

@@ -62,17 +62,17 @@ module _ (w : Book) (index : ℕ) where
     module _ (rules : IsWellFormed w) (result : Result (List Diff) EditError) (kept : IfOk result IsCanonicalList) (only : IsOkUnless result NoMemory) where
       made_plan : (later : Book) (diffs : List Diff) → IsWellFormed later → IsRecord w later diffs → (answer : Result (List Diff) EditError)
           → IfOk answer (λ list. list ≡ diffs) → IfOk answer IsCanonicalList → IfOk answer (λ list. IsPlan w list later)
-      made_plan later diffs well exact (Ok list) made fit = record { exact = subst (IsRecord w later) (sym made) exact; rules = well; canonical = fit }
-      made_plan later diffs well exact (Err error) made fit = tt
+      made_plan later diffs well exact (Ok list) output fit = record { exact = subst (IsRecord w later) (sym output) exact; rules = well; canonical = fit }
+      made_plan later diffs well exact (Err error) output fit = tt
 
       pub merge_planned : (r : MergedCell) → merged_in r sheet ≡ Ok (with_merge sheet r) → IfOk result (λ list. list ≡ merge_diffs r sheet)
           → Plans result w (merge_made index r w)
       unfolding merge_made
-      merge_planned r done made =
+      merge_planned r done output =
           let may = may_merge sheet r (with_merge sheet r) done in
           plan_made w (with_sheet w index (with_merge sheet r)) _ result (sheet_takes w index (merged_in r) sheet (with_merge sheet r) at done) only
           (made_plan (with_sheet w index (with_merge sheet r)) (merge_diffs r sheet)
-          (merge_well_formed w rules index sheet at r may.is may.free may.clear) (merge_exact w rules index sheet at r) result made kept)
+          (merge_well_formed w rules index sheet at r may.is may.free may.clear) (merge_exact w rules index sheet at r) result output kept)
 
       -- a merge holds the place that was found
       holding : (row column : ℤ) (place : Position)
@@ -91,8 +91,8 @@ module _ (w : Book) (index : ℕ) where
           → IfOk result (λ list. list ≡ MergesDiff sheet.id sheet.merges (merges_without place sheet.merges) ∷ [])
           → Plans result w (merge_undone index row column w)
       unfolding merge_undone
-      unmerge_planned row column place named done made =
+      unmerge_planned row column place named done output =
           let held = holding row column place done named in
           plan_made w (with_sheet w index (without_merge sheet place)) _ result (sheet_takes w index _ sheet (without_merge sheet place) at done) only
           (made_plan (with_sheet w index (without_merge sheet place)) (MergesDiff sheet.id sheet.merges (merges_without place sheet.merges) ∷ [])
-          (unmerge_well_formed w rules index sheet at place) (unmerge_exact w rules index sheet at place held.0 held.1) result made kept)
+          (unmerge_well_formed w rules index sheet at place) (unmerge_exact w rules index sheet at place held.0 held.1) result output kept)

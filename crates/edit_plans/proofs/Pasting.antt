@@ -22,7 +22,7 @@ use Rattle.planned_maps.specs.Planned.{places_of}
 use Rattle.range_styles.specs.declared.SheetPlan.{SheetPlan}
 use Rattle.range_styles.specs.declared.StyleRange.{StyleRange}
 use Rattle.range_styles.specs.StyleRanges.{touches_line}
-use Rattle.range_styles.specs.Styled.{Made, all_accept, line_accepts, lines_accept, place_accepts, planned_styles, style_plan}
+use Rattle.range_styles.specs.Styled.{StyleAt, all_accept, line_accepts, lines_accept, place_accepts, planned_styles, style_plan}
 use Rattle.edit_plans.specs.Plans.{Plans}
 use Rattle.edit_plans.specs.RangeEdits.{greater, is_tile, pasted_area, pasted_by, pasted_in, styles_pasted}
 use Rattle.edit_plans.specs.laws.PlanLaws.{plan_refused}
@@ -126,13 +126,13 @@ all_taken range sheet = λ i. (each_passes (place_accepts range (λ place style.
         (λ line. ap (λ b. not (touches_line a range lines line) || b) (either_so _) ∙ either_so _) _
 
 -- so where memory is short there would have been a plan
-pub tiles_short : (range : StyleRange) (made : Made) (refusal : EditError) (sheet : Sheet) (error : EditError) → error ≡ NoMemory
-    → Returns {T = SheetPlan} (Err error) (planned_styles range made (λ place style. true) refusal sheet)
+pub tiles_short : (range : StyleRange) (output : StyleAt) (refusal : EditError) (sheet : Sheet) (error : EditError) → error ≡ NoMemory
+    → Returns {T = SheetPlan} (Err error) (planned_styles range output (λ place style. true) refusal sheet)
 unfolding planned_styles
-tiles_short range made refusal sheet error is = record {
+tiles_short range output refusal sheet error is = record {
   done = tt;
   refused = λ other. absurd (other is);
-  memory = λ short. ap (λ b. is_ok (cond b (Ok (style_plan range made sheet)) (Err refusal))) (all_taken range sheet);
+  memory = λ short. ap (λ b. is_ok (cond b (Ok (style_plan range output sheet)) (Err refusal))) (all_taken range sheet);
 }
 
 -- ---- styles that are no tile, and those that are

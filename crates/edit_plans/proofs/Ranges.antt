@@ -16,7 +16,7 @@ use Rattle.range_styles.specs.declared.Clearing.{Clearing}
 use Rattle.range_styles.specs.declared.SheetPlan.{SheetPlan}
 use Rattle.range_styles.specs.declared.StyleRange.{StyleRange}
 use Rattle.range_styles.specs.Clearing.{clear_area, clear_plan, cuts_array}
-use Rattle.range_styles.specs.Styled.{Accepts, Made, all_accept, planned_styles, style_plan}
+use Rattle.range_styles.specs.Styled.{Accepts, StyleAt, all_accept, planned_styles, style_plan}
 use Rattle.range_styles.specs.Tiles.{tiles}
 use Rattle.range_styles.specs.laws.TileLaws.{tiles_sized}
 use Rattle.sheet_history.specs.declared.Diff.{Diff}
@@ -62,8 +62,8 @@ module _ (w : Book) (index : ℕ) (sheet : Sheet) (at : sheet_at w index ≡ Ok 
   }
     where
       go : (p : Result SheetPlan EditError) → plan ≡ p → IsOk p → IsOk (sheet_edit w index edit)
-      go (Ok planned) made ok = subst IsOk (sym (sheet_takes w index edit sheet (with_plan planned sheet) at (is ∙ ap (planned_in sheet) made))) refl
-      go (Err other) made ok = absurd (let never : false ≡ true = ok in cc)
+      go (Ok planned) output ok = subst IsOk (sym (sheet_takes w index edit sheet (with_plan planned sheet) at (is ∙ ap (planned_in sheet) output))) refl
+      go (Err other) output ok = absurd (let never : false ≡ true = ok in cc)
 
 -- ---- clearing
 
@@ -99,18 +99,18 @@ module _ (w : Book) (index : ℕ) (clearing : Clearing) (r : MergedCell) where
         → (result : Result (List Diff) EditError) → IfOk result (λ list. list ≡ plan_diffs plan sheet) → IfOk result IsCanonicalList → IsOkUnless result NoMemory
         → Plans result w (range_cleared index clearing r w)
     unfolding range_cleared
-    cleared_planned rules area free plan is result made canonical only =
+    cleared_planned rules area free plan is result output canonical only =
         plan_carried w rules index sheet at plan
         (subst (λ p. PlanKeeps p sheet) is (cleared_keeps clearing area (clear_is r area sheet free) sheet (keeps w rules index sheet at))) (cleared_in clearing r)
-        (ap (map_ok (λ a. with_plan (clear_plan clearing a sheet) sheet)) free ∙ ap (λ p. Ok (with_plan p sheet)) is) result made canonical only
+        (ap (map_ok (λ a. with_plan (clear_plan clearing a sheet) sheet)) free ∙ ap (λ p. Ok (with_plan p sheet)) is) result output canonical only
 
 -- a plan of styles that is made is that of the range
-pub styles_made : (range : StyleRange) (made : Made) (accepts : Accepts) (refusal : EditError) (sheet : Sheet) (plan : SheetPlan)
-    → planned_styles range made accepts refusal sheet ≡ Ok plan → style_plan range made sheet ≡ plan
+pub styles_made : (range : StyleRange) (output : StyleAt) (accepts : Accepts) (refusal : EditError) (sheet : Sheet) (plan : SheetPlan)
+    → planned_styles range output accepts refusal sheet ≡ Ok plan → style_plan range output sheet ≡ plan
 unfolding planned_styles
-styles_made range made accepts refusal sheet plan is = go (all_accept range accepts sheet) is
+styles_made range output accepts refusal sheet plan is = go (all_accept range accepts sheet) is
   where
-    go : (b : Bool) → ◌≡◌ {A = Result SheetPlan EditError} (cond b (Ok (style_plan range made sheet)) (Err refusal)) (Ok plan) → style_plan range made sheet ≡ plan
+    go : (b : Bool) → ◌≡◌ {A = Result SheetPlan EditError} (cond b (Ok (style_plan range output sheet)) (Err refusal)) (Ok plan) → style_plan range output sheet ≡ plan
     go true e = cc
     go false e = absurd (let never : ◌≡◌ {A = Result SheetPlan EditError} (Err refusal) (Ok plan) = e in cc)
 
@@ -137,10 +137,10 @@ tiles_keep styles r place style font = tiles_sized styles (anchor_place r) place
 
 -- ---- edits of the styles of a rectangle
 
-module _ (w : Book) (index : ℕ) (r : MergedCell) (range : MergedCell → StyleRange) (made : Made) (sized : IsSized made) (accepts : Accepts) (refusal : EditError) where
+module _ (w : Book) (index : ℕ) (r : MergedCell) (range : MergedCell → StyleRange) (output : StyleAt) (sized : IsSized output) (accepts : Accepts) (refusal : EditError) where
   -- what such an edit makes of a sheet
   abbrev pub area_edit : Sheet → Result Sheet EditError
-  area_edit sheet = and_then (inside_area r) (λ area. planned_in sheet (planned_styles (range area) made accepts refusal sheet))
+  area_edit sheet = and_then (inside_area r) (λ area. planned_in sheet (planned_styles (range area) output accepts refusal sheet))
 
   -- where no such sheet is there
   pub area_no_sheet : (error : EditError) → sheet_at w index ≡ Err error → Plans (Err error) w (sheet_edit w index area_edit)
@@ -151,42 +151,42 @@ module _ (w : Book) (index : ℕ) (r : MergedCell) (range : MergedCell → Style
     pub area_outside : (error : EditError) → inside_area r ≡ Err error → error ≢ NoMemory → Plans (Err error) w (sheet_edit w index area_edit)
     area_outside error outside sure =
         plan_refused w (sheet_edit w index area_edit) error
-        (sheet_refuses w index area_edit sheet error at (ap (λ a. and_then a (λ area. planned_in sheet (planned_styles (range area) made accepts refusal sheet))) outside)) sure
+        (sheet_refuses w index area_edit sheet error at (ap (λ a. and_then a (λ area. planned_in sheet (planned_styles (range area) output accepts refusal sheet))) outside)) sure
 
     module _ (area : MergedCell) (from : inside_area r ≡ Ok area) where
-      taken : area_edit sheet ≡ planned_in sheet (planned_styles (range area) made accepts refusal sheet)
-      taken = ap (λ a. and_then a (λ area. planned_in sheet (planned_styles (range area) made accepts refusal sheet))) from
+      taken : area_edit sheet ≡ planned_in sheet (planned_styles (range area) output accepts refusal sheet)
+      taken = ap (λ a. and_then a (λ area. planned_in sheet (planned_styles (range area) output accepts refusal sheet))) from
 
       -- where one of the styles is refused, or memory is short
-      pub area_stopped : (error : EditError) → (error ≢ NoMemory → planned_styles (range area) made accepts refusal sheet ≡ Err error)
-          → (error ≡ NoMemory → IsOk (planned_styles (range area) made accepts refusal sheet)) → Plans (Err error) w (sheet_edit w index area_edit)
-      area_stopped error refused memory = plan_stopped w index sheet at area_edit (planned_styles (range area) made accepts refusal sheet) taken error refused memory
+      pub area_stopped : (error : EditError) → (error ≢ NoMemory → planned_styles (range area) output accepts refusal sheet ≡ Err error)
+          → (error ≡ NoMemory → IsOk (planned_styles (range area) output accepts refusal sheet)) → Plans (Err error) w (sheet_edit w index area_edit)
+      area_stopped error refused memory = plan_stopped w index sheet at area_edit (planned_styles (range area) output accepts refusal sheet) taken error refused memory
 
       -- and else
-      pub area_planned : IsWellFormed w → (range area).area ≡ area → (plan : SheetPlan) → planned_styles (range area) made accepts refusal sheet ≡ Ok plan
+      pub area_planned : IsWellFormed w → (range area).area ≡ area → (plan : SheetPlan) → planned_styles (range area) output accepts refusal sheet ≡ Ok plan
           → (result : Result (List Diff) EditError) → IfOk result (λ list. list ≡ plan_diffs plan sheet) → IfOk result IsCanonicalList → IsOkUnless result NoMemory
           → Plans result w (sheet_edit w index area_edit)
       area_planned rules same plan is result recorded canonical only =
           plan_carried w rules index sheet at plan
-          (subst (λ p. PlanKeeps p sheet) (styles_made (range area) made accepts refusal sheet plan is)
-          (styled_keeps (range area) (subst IsInside (sym same) (inside_is r area from)) made sized sheet (keeps w rules index sheet at)))
+          (subst (λ p. PlanKeeps p sheet) (styles_made (range area) output accepts refusal sheet plan is)
+          (styled_keeps (range area) (subst IsInside (sym same) (inside_is r area from)) output sized sheet (keeps w rules index sheet at)))
           area_edit (taken ∙ ap (planned_in sheet) is) result recorded canonical only
 
       -- the same of a range that is the one of the rectangle
-      pub given_stopped : (given : StyleRange) → given ≡ range area → (error : EditError) → Returns {T = SheetPlan} (Err error) (planned_styles given made accepts refusal sheet)
+      pub given_stopped : (given : StyleRange) → given ≡ range area → (error : EditError) → Returns {T = SheetPlan} (Err error) (planned_styles given output accepts refusal sheet)
           → Plans (Err error) w (sheet_edit w index area_edit)
       given_stopped given same error answer =
-          let of_range : Returns {T = SheetPlan} (Err error) (planned_styles (range area) made accepts refusal sheet) =
-          subst (λ (g : StyleRange). Returns {T = SheetPlan} (Err error) (planned_styles g made accepts refusal sheet)) same answer in
+          let of_range : Returns {T = SheetPlan} (Err error) (planned_styles (range area) output accepts refusal sheet) =
+          subst (λ (g : StyleRange). Returns {T = SheetPlan} (Err error) (planned_styles g output accepts refusal sheet)) same answer in
           area_stopped error of_range.refused of_range.memory
 
       pub given_planned : (given : StyleRange) → given ≡ range area → IsWellFormed w → (range area).area ≡ area → (plan : SheetPlan)
-          → Returns {T = SheetPlan} (Ok plan) (planned_styles given made accepts refusal sheet)
+          → Returns {T = SheetPlan} (Ok plan) (planned_styles given output accepts refusal sheet)
           → (result : Result (List Diff) EditError) → IfOk result (λ list. list ≡ plan_diffs plan sheet) → IfOk result IsCanonicalList → IsOkUnless result NoMemory
           → Plans result w (sheet_edit w index area_edit)
       given_planned given same rules whole plan answer result recorded canonical only =
-          let of_range : Returns {T = SheetPlan} (Ok plan) (planned_styles (range area) made accepts refusal sheet) =
-          subst (λ (g : StyleRange). Returns {T = SheetPlan} (Ok plan) (planned_styles g made accepts refusal sheet)) same answer in
+          let of_range : Returns {T = SheetPlan} (Ok plan) (planned_styles (range area) output accepts refusal sheet) =
+          subst (λ (g : StyleRange). Returns {T = SheetPlan} (Ok plan) (planned_styles g output accepts refusal sheet)) same answer in
           area_planned rules whole plan of_range.done result recorded canonical only
 
 -- these are plans of the edits

@@ -13,7 +13,7 @@ use Rattle.entry_records.specs.LineRecords.{lines_set}
 -- the sheet where the lines from a first to a last are changed, or the first refusal: they are not lines of the axis, the last one is before
 -- the first, or there is no such change
 abbrev pub attrs_in : LineAxis → ℤ → ℤ → Result LineChange EditError → Sheet → Result Sheet EditError
-attrs_in axis first last change sheet = and_then (lines_from (along_of axis).last first last) (λ count. map_ok (λ made. lines_set axis made first count sheet) change)
+attrs_in axis first last change sheet = and_then (lines_from (along_of axis).last first last) (λ count. map_ok (λ output. lines_set axis output first count sheet) change)
 
 -- the workbook where those lines of the sheet at an index are changed. The first refusal is that there is no such sheet
 unfoldable pub attrs_set : ℕ → LineAxis → ℤ → ℤ → Result LineChange EditError → Book → Result Book EditError

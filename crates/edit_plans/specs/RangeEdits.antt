@@ -20,7 +20,7 @@ use Rattle.range_styles.specs.declared.StyleRange.{StyleRange}
 use Rattle.range_styles.specs.Clearing.{clear_area, clear_plan}
 use Rattle.range_styles.specs.StyleRanges.{kind_of}
 use Rattle.range_styles.specs.Tiles.{tiles}
-use Rattle.range_styles.specs.Styled.{Accepts, Made, planned_styles}
+use Rattle.range_styles.specs.Styled.{Accepts, StyleAt, planned_styles}
 use Rattle.entry_records.specs.SheetPlans.{with_plan}
 
 -- a rectangle of places of the sheet, or the refusal of one that is empty or reaches outside
@@ -39,7 +39,7 @@ style_or style (Ok changed) = changed
 style_or style (Err error) = style
 
 -- what a value at a path makes of a style, and whether it may
-abbrev pub updates : List ℕ → List ℕ → Made
+abbrev pub updates : List ℕ → List ℕ → StyleAt
 updates path value place style = style_or style (updated_style style path value)
 
 abbrev pub may_update : List ℕ → List ℕ → Accepts

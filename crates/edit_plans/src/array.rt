@@ -78,7 +78,7 @@ fn array_list(
 ) -> Result<DiffList, EditError>
     requires place { place_of area.row area.column ≡ Ok (anchor_place area) }
     requires canonical { IsTrue (has_canonical_numbers tree) }
-    ensures made { IfOk result (λ list. list ≡ array_diffs area tree sheet.now) }
+    ensures output { IfOk result (λ list. list ≡ array_diffs area tree sheet.now) }
     ensures canonical { IfOk result IsCanonicalList }
     ensures only { IsOkUnless result NoMemory }
 {

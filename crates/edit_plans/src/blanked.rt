@@ -42,7 +42,7 @@ fn loses(area: MergedCell, place: Position, cell: &Cell) -> bool
 
 /// A cell without its content. It holds the style together with the cell.
 fn blank_cell(alloc: Global, cell: &Cell) -> Result<Shared<Cell>, EditError>
-    ensures made { Returns result (Ok (blank_cell cell.now)) }
+    ensures output { Returns result (Ok (blank_cell cell.now)) }
     ensures canonical { IfOk result IsCanonicalCell }
 {
     let style = copy_of(&cell.style)?;
@@ -59,7 +59,7 @@ fn blank_diff(
     cell: &Shared<Cell>,
 ) -> Result<Option<Diff>, EditError>
     requires { IsCanonicalCell cell.now }
-    ensures made { IfOk result (λ diff. diff ≡ blank_diff sheet area (position, cell.now)) }
+    ensures output { IfOk result (λ diff. diff ≡ blank_diff sheet area (position, cell.now)) }
     ensures canonical { IfOk result (λ diff. IfSome diff IsCanonicalDiff) }
     ensures only { IsOkUnless result NoMemory }
 {
@@ -84,7 +84,7 @@ pub(crate) fn push_blank_diffs(
     list: &mut Items<Diff>,
 ) -> Result<(), EditError>
     requires { IsCanonicalList list.old }
-    ensures made { OnOk result (list.new ≡ list.old ++ blank_diffs area sheet.now) }
+    ensures output { OnOk result (list.new ≡ list.old ++ blank_diffs area sheet.now) }
     ensures canonical { OnOk result (IsCanonicalList list.new) }
     ensures only { IsOkUnless result NoMemory }
 {

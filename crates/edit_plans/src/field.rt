@@ -19,7 +19,7 @@ use sheet_history::{Diff, DiffList, FieldChange, SheetField};
 use std::alloc::Global;
 
 fn state_diff(sheet: &Worksheet, new: SheetState) -> Option<Diff>
-    ensures made { cons_option result [] ≡ field_change sheet.now (State new) }
+    ensures output { cons_option result [] ≡ field_change sheet.now (State new) }
     ensures canonical { IfSome result IsCanonicalDiff }
 {
     let old = sheet.state();
@@ -33,7 +33,7 @@ fn state_diff(sheet: &Worksheet, new: SheetState) -> Option<Diff>
 }
 
 fn color_diff(sheet: &Worksheet, new: Color) -> Option<Diff>
-    ensures made { cons_option result [] ≡ field_change sheet.now (ColorValue new) }
+    ensures output { cons_option result [] ≡ field_change sheet.now (ColorValue new) }
     ensures canonical { IfSome result IsCanonicalDiff }
 {
     let old = sheet.color();
@@ -47,7 +47,7 @@ fn color_diff(sheet: &Worksheet, new: Color) -> Option<Diff>
 }
 
 fn grid_diff(sheet: &Worksheet, new: bool) -> Option<Diff>
-    ensures made { cons_option result [] ≡ field_change sheet.now (GridLines new) }
+    ensures output { cons_option result [] ≡ field_change sheet.now (GridLines new) }
     ensures canonical { IfSome result IsCanonicalDiff }
 {
     let old = sheet.show_grid_lines();
@@ -61,7 +61,7 @@ fn grid_diff(sheet: &Worksheet, new: bool) -> Option<Diff>
 }
 
 fn frozen_rows_diff(sheet: &Worksheet, new: i32) -> Option<Diff>
-    ensures made { cons_option result [] ≡ field_change sheet.now (FrozenRows new) }
+    ensures output { cons_option result [] ≡ field_change sheet.now (FrozenRows new) }
     ensures canonical { IfSome result IsCanonicalDiff }
 {
     let old = sheet.frozen_rows();
@@ -75,7 +75,7 @@ fn frozen_rows_diff(sheet: &Worksheet, new: i32) -> Option<Diff>
 }
 
 fn frozen_columns_diff(sheet: &Worksheet, new: i32) -> Option<Diff>
-    ensures made { cons_option result [] ≡ field_change sheet.now (FrozenColumns new) }
+    ensures output { cons_option result [] ≡ field_change sheet.now (FrozenColumns new) }
     ensures canonical { IfSome result IsCanonicalDiff }
 {
     let old = sheet.frozen_columns();
@@ -90,7 +90,7 @@ fn frozen_columns_diff(sheet: &Worksheet, new: i32) -> Option<Diff>
 
 /// The diff of a field that gets a value, or none where it stays.
 fn field_diff(sheet: &Worksheet, value: SheetField) -> Option<Diff>
-    ensures made { cons_option result [] ≡ field_change sheet.now value }
+    ensures output { cons_option result [] ≡ field_change sheet.now value }
     ensures canonical { IfSome result IsCanonicalDiff }
 {
     match value {
@@ -104,7 +104,7 @@ fn field_diff(sheet: &Worksheet, value: SheetField) -> Option<Diff>
 
 /// The record of a field that gets a value.
 fn field_list(alloc: Global, sheet: &Worksheet, value: SheetField) -> Result<DiffList, EditError>
-    ensures made { IfOk result (λ list. list ≡ field_change sheet.now value) }
+    ensures output { IfOk result (λ list. list ≡ field_change sheet.now value) }
     ensures canonical { IfOk result IsCanonicalList }
     ensures only { IsOkUnless result NoMemory }
 {

@@ -26,7 +26,7 @@ use std::alloc::Global;
 
 /// The diff of the merges of a sheet that get others in their place, or none where they stay.
 fn merges_change(sheet: &Worksheet, merges: Items<MergedCell>) -> Result<Option<Diff>, EditError>
-    ensures made { IfOk result (λ diff. cons_option diff [] ≡ merges_record sheet.now merges) }
+    ensures output { IfOk result (λ diff. cons_option diff [] ≡ merges_record sheet.now merges) }
     ensures canonical { IfOk result (λ diff. IfSome diff IsCanonicalDiff) }
     ensures only { IsOkUnless result NoMemory }
 {
@@ -41,7 +41,7 @@ fn merges_change(sheet: &Worksheet, merges: Items<MergedCell>) -> Result<Option<
 fn with_last(alloc: Global, list: &DiffList, last: Diff) -> Result<DiffList, EditError>
     requires list { IsCanonicalList list.now }
     requires last { IsCanonicalDiff last }
-    ensures made { IfOk result (λ made. made ≡ list.now ++ last ∷ []) }
+    ensures output { IfOk result (λ output. output ≡ list.now ++ last ∷ []) }
     ensures canonical { IfOk result IsCanonicalList }
     ensures only { IsOkUnless result NoMemory }
 {
@@ -69,7 +69,7 @@ fn sheet_plan(
 /// The record of a fill that is not refused.
 fn fill_list(alloc: Global, sheet: &Worksheet, plan: FillPlan) -> Result<DiffList, EditError>
     requires { CanonicalFill plan.cells }
-    ensures made { IfOk result (λ list. list ≡ fill_record sheet.now plan) }
+    ensures output { IfOk result (λ list. list ≡ fill_record sheet.now plan) }
     ensures canonical { IfOk result IsCanonicalList }
     ensures only { IsOkUnless result NoMemory }
 {

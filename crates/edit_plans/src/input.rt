@@ -68,7 +68,7 @@ fn entered(
     style: &Shared<Style>,
 ) -> Result<Option<Shared<Cell>>, EditError>
     requires { IsCanonicalContent content }
-    ensures made { Returns result (Ok (entered old.now content style.now)) }
+    ensures output { Returns result (Ok (entered old.now content style.now)) }
     ensures canonical { IfOk result (λ new. IfSome new IsCanonicalCell) }
 {
     if old.is_none() {
@@ -90,7 +90,7 @@ pub(crate) fn cell_change(
 ) -> Result<Option<Diff>, EditError>
     requires place { place_of place.row place.column ≡ Ok place }
     requires canonical { IsCanonicalContent content }
-    ensures made { IfOk result (λ diff. cons_option diff [] ≡ cell_record content sheet.now place) }
+    ensures output { IfOk result (λ diff. cons_option diff [] ≡ cell_record content sheet.now place) }
     ensures canonical { IfOk result (λ diff. IfSome diff IsCanonicalDiff) }
     ensures only { IsOkUnless result NoMemory }
 {
@@ -108,7 +108,7 @@ fn link_left(
     content: &Content,
 ) -> Result<Option<Diff>, EditError>
     requires { place_of place.row place.column ≡ Ok place }
-    ensures made { IfOk result (λ diff. cons_option diff [] ≡ link_record content.now sheet.now place) }
+    ensures output { IfOk result (λ diff. cons_option diff [] ≡ link_record content.now sheet.now place) }
     ensures canonical { IfOk result (λ diff. IfSome diff IsCanonicalDiff) }
     ensures only { IsOkUnless result NoMemory }
 {
@@ -126,7 +126,7 @@ fn height_change(
     feeds: u64,
 ) -> Result<Option<Diff>, EditError>
     requires { place_of place.row place.column ≡ Ok place }
-    ensures made { IfOk result (λ diff. cons_option diff [] ≡ height_record feeds sheet.now place) }
+    ensures output { IfOk result (λ diff. cons_option diff [] ≡ height_record feeds sheet.now place) }
     ensures canonical { IfOk result (λ diff. IfSome diff IsCanonicalDiff) }
     ensures only { IsOkUnless result NoMemory }
 {
@@ -146,7 +146,7 @@ fn input_list(
 ) -> Result<DiffList, EditError>
     requires place { place_of place.row place.column ≡ Ok place }
     requires canonical { IsCanonicalContent content }
-    ensures made { IfOk result (λ list. list ≡ input_record content feeds sheet.now place) }
+    ensures output { IfOk result (λ list. list ≡ input_record content feeds sheet.now place) }
     ensures canonical { IfOk result IsCanonicalList }
     ensures only { IsOkUnless result NoMemory }
 {

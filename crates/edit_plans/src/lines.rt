@@ -27,14 +27,14 @@ fn plan_change(
 ) -> Result<DiffList, EditError>
     requires rules { IsWellFormed workbook.now }
     requires sure { change ≢ Err NoMemory }
-    requires fits { IfOk change (λ made. IsTrue (change_fits axis made)) }
+    requires fits { IfOk change (λ output. IsTrue (change_fits axis output)) }
     ensures planned { Plans result workbook.now (attrs_set sheet axis first last change workbook.now) }
 {
     let found = workbook.worksheet(sheet)?;
     let end = axis_end(axis);
     let count = line_count(end, first, last)?;
-    let made = change?;
-    line_list(alloc, found, axis, made, first, count)
+    let output = change?;
+    line_list(alloc, found, axis, output, first, count)
 }
 
 /// The record of the rows or columns from a first to a last of the sheet at an index, which get a size in

@@ -23,7 +23,7 @@ pub(crate) fn link_change(
     link: Option<Link>,
 ) -> Result<Option<Diff>, EditError>
     requires { place_of place.row place.column ≡ Ok place }
-    ensures made { IfOk result (λ diff. cons_option diff [] ≡ link_change sheet.now place link) }
+    ensures output { IfOk result (λ diff. cons_option diff [] ≡ link_change sheet.now place link) }
     ensures canonical { IfOk result (λ diff. IfSome diff IsCanonicalDiff) }
     ensures only { IsOkUnless result NoMemory }
 {
@@ -39,7 +39,7 @@ fn link_list(
     link: Option<Link>,
 ) -> Result<DiffList, EditError>
     requires { place_of place.row place.column ≡ Ok place }
-    ensures made { IfOk result (λ list. list ≡ link_change sheet.now place link) }
+    ensures output { IfOk result (λ list. list ≡ link_change sheet.now place link) }
     ensures canonical { IfOk result IsCanonicalList }
     ensures only { IsOkUnless result NoMemory }
 {

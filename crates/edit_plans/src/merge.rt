@@ -70,7 +70,7 @@ fn test_merge(sheet: &Worksheet, area: MergedCell) -> Result<(), EditError>
 
 /// The merges of a sheet and one more, behind them.
 fn one_more(sheet: &Worksheet, area: MergedCell) -> Result<MergeList, EditError>
-    ensures made { IfOk result (λ merges. merges ≡ sheet.now.merges ++ area ∷ []) }
+    ensures output { IfOk result (λ merges. merges ≡ sheet.now.merges ++ area ∷ []) }
     ensures only { IsOkUnless result NoMemory }
 {
     let mut merges = copy_of(sheet.merge_list())?.into_items();
@@ -81,7 +81,7 @@ fn one_more(sheet: &Worksheet, area: MergedCell) -> Result<MergeList, EditError>
 
 /// The record of a merge that is not refused.
 fn merge_record(alloc: Global, sheet: &Worksheet, area: MergedCell) -> Result<DiffList, EditError>
-    ensures made { IfOk result (λ list. list ≡ merge_diffs area sheet.now) }
+    ensures output { IfOk result (λ list. list ≡ merge_diffs area sheet.now) }
     ensures canonical { IfOk result IsCanonicalList }
     ensures only { IsOkUnless result NoMemory }
 {

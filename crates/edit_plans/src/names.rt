@@ -29,7 +29,7 @@ fn change_list(
 ) -> Result<DiffList, EditError>
     requires place { has_place change (length workbook.now.names) ≡ true }
     requires numbers { IsCanonicalChange change }
-    ensures made { IfOk result (λ list. list ≡ name_diff workbook.now change ∷ []) }
+    ensures output { IfOk result (λ list. list ≡ name_diff workbook.now change ∷ []) }
     ensures canonical { IfOk result IsCanonicalList }
     ensures only { IsOkUnless result NoMemory }
 {

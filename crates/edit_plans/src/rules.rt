@@ -27,7 +27,7 @@ use std::alloc::Global;
 /// The diff of a change of the rules of a sheet.
 fn rule_diff(sheet: &Worksheet, change: Shared<RuleChange>) -> Diff
     requires { IsCanonicalChange change }
-    ensures made { result ≡ RuleDiff sheet.now.id change }
+    ensures output { result ≡ RuleDiff sheet.now.id change }
     ensures canonical { IsCanonicalDiff result }
 {
     Diff::Rule {
@@ -43,7 +43,7 @@ fn list_of_change(
     change: Option<Shared<RuleChange>>,
 ) -> Result<DiffList, EditError>
     requires { IfSome change IsCanonicalChange }
-    ensures made { IfOk result (λ list. list ≡ diffs_of sheet.now (maybe_one change)) }
+    ensures output { IfOk result (λ list. list ≡ diffs_of sheet.now (maybe_one change)) }
     ensures canonical { IfOk result IsCanonicalList }
     ensures only { IsOkUnless result NoMemory }
 {
@@ -60,7 +60,7 @@ fn list_of_changes(
     changes: Option<(Shared<RuleChange>, Shared<RuleChange>)>,
 ) -> Result<DiffList, EditError>
     requires { IfSome changes (λ both. IsCanonicalChange both.0 × IsCanonicalChange both.1) }
-    ensures made { IfOk result (λ list. list ≡ diffs_of sheet.now (maybe_two changes)) }
+    ensures output { IfOk result (λ list. list ≡ diffs_of sheet.now (maybe_two changes)) }
     ensures canonical { IfOk result IsCanonicalList }
     ensures only { IsOkUnless result NoMemory }
 {

@@ -31,7 +31,7 @@ fn has_setting(workbook: &Workbook, setting: &Setting) -> bool
 
 /// The change of a workbook that gets a setting.
 fn change_to(workbook: &Workbook, setting: Setting) -> Result<SettingChange, EditError>
-    ensures made { IfOk result (λ change. change ≡ change_to setting workbook.now) }
+    ensures output { IfOk result (λ change. change ≡ change_to setting workbook.now) }
     ensures only { IsOkUnless result NoMemory }
 {
     match setting {
@@ -56,7 +56,7 @@ fn change_to(workbook: &Workbook, setting: Setting) -> Result<SettingChange, Edi
 
 /// The diff of a setting that a workbook gets, or none where it stays.
 fn setting_diff(workbook: &Workbook, setting: Setting) -> Result<Option<Diff>, EditError>
-    ensures made { IfOk result (λ diff. cons_option diff [] ≡ setting_record setting workbook.now) }
+    ensures output { IfOk result (λ diff. cons_option diff [] ≡ setting_record setting workbook.now) }
     ensures canonical { IfOk result (λ diff. IfSome diff IsCanonicalDiff) }
     ensures only { IsOkUnless result NoMemory }
 {
@@ -69,7 +69,7 @@ fn setting_diff(workbook: &Workbook, setting: Setting) -> Result<Option<Diff>, E
 
 /// The record of a setting that a workbook gets.
 fn setting_list(alloc: Global, workbook: &Workbook, setting: Setting) -> Result<DiffList, EditError>
-    ensures made { IfOk result (λ list. list ≡ setting_record setting workbook.now) }
+    ensures output { IfOk result (λ list. list ≡ setting_record setting workbook.now) }
     ensures canonical { IfOk result IsCanonicalList }
     ensures only { IsOkUnless result NoMemory }
 {
@@ -79,7 +79,7 @@ fn setting_list(alloc: Global, workbook: &Workbook, setting: Setting) -> Result<
 
 /// The record of a name that a workbook gets.
 fn title_list(alloc: Global, workbook: &Workbook, name: &str) -> Result<DiffList, EditError>
-    ensures made { IfOk result (λ list. list ≡ setting_record (value.Name name.now) workbook.now) }
+    ensures output { IfOk result (λ list. list ≡ setting_record (value.Name name.now) workbook.now) }
     ensures canonical { IfOk result IsCanonicalList }
     ensures only { IsOkUnless result NoMemory }
 {

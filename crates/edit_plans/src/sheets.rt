@@ -24,7 +24,7 @@ use std::alloc::Global;
 /// The record of one diff.
 pub(crate) fn list_of_one(alloc: Global, diff: Diff) -> Result<DiffList, EditError>
     requires { IsCanonicalDiff diff }
-    ensures made { IfOk result (λ list. list ≡ diff ∷ []) }
+    ensures output { IfOk result (λ list. list ≡ diff ∷ []) }
     ensures canonical { IfOk result IsCanonicalList }
     ensures only { IsOkUnless result NoMemory }
 {
@@ -47,7 +47,7 @@ fn sheet_count(workbook: &Workbook) -> usize
 /// The diff of a new sheet of an id.
 fn new_diff(alloc: Global, workbook: &Workbook, sheet: u32) -> Result<Diff, EditError>
     requires { length workbook.now.worksheets ≤ 4294967295 }
-    ensures made { IfOk result (λ diff. diff ≡ new_diff workbook.now sheet) }
+    ensures output { IfOk result (λ diff. diff ≡ new_diff workbook.now sheet) }
     ensures canonical { IfOk result IsCanonicalDiff }
     ensures only { IsOkUnless result NoMemory }
 {
@@ -69,7 +69,7 @@ fn copy_diff(
     sheet: u32,
 ) -> Result<Diff, EditError>
     requires { index < 4294967295 }
-    ensures made { IfOk result (λ diff. diff ≡ copy_diff index workbook.now source.now sheet) }
+    ensures output { IfOk result (λ diff. diff ≡ copy_diff index workbook.now source.now sheet) }
     ensures canonical { IfOk result IsCanonicalDiff }
     ensures only { IsOkUnless result NoMemory }
 {
@@ -89,7 +89,7 @@ fn deletion_diff(
     index: u32,
     sheet: &Worksheet,
 ) -> Result<Diff, EditError>
-    ensures made { IfOk result (λ diff. diff ≡ deletion_diff index workbook.now sheet.now) }
+    ensures output { IfOk result (λ diff. diff ≡ deletion_diff index workbook.now sheet.now) }
     ensures canonical { IfOk result IsCanonicalDiff }
     ensures only { IsOkUnless result NoMemory }
 {
@@ -112,7 +112,7 @@ fn rename_diff(
     sheet: &Worksheet,
     name: &str,
 ) -> Result<Diff, EditError>
-    ensures made { IfOk result (λ diff. diff ≡ rename_diff name.now workbook.now sheet.now) }
+    ensures output { IfOk result (λ diff. diff ≡ rename_diff name.now workbook.now sheet.now) }
     ensures canonical { IfOk result IsCanonicalDiff }
     ensures only { IsOkUnless result NoMemory }
 {

@@ -40,7 +40,11 @@ impl<'a> StyleChange for StyleUpdate<'a> {
         test_update(style, self.path, self.value).is_ok()
     }
 
-    fn made(&self, _place: Position, style: &Shared<Style>) -> Result<Shared<Style>, EditError> {
+    fn style_at(
+        &self,
+        _place: Position,
+        style: &Shared<Style>,
+    ) -> Result<Shared<Style>, EditError> {
         match update_style(style.get(), self.path, self.value) {
             Ok(changed) => Ok(Shared::new(style.get().num_fmt.allocator(), changed)?),
             Err(EditError::NoMemory) => Err(EditError::NoMemory),

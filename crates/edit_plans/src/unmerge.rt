@@ -53,7 +53,7 @@ fn merges_without(
     merges: &[MergedCell],
     place: Position,
 ) -> Result<MergeList, EditError>
-    ensures made { IfOk result (λ left. left ≡ merges_without place merges.now) }
+    ensures output { IfOk result (λ left. left ≡ merges_without place merges.now) }
     ensures only { IsOkUnless result NoMemory }
 {
     let left: Vec<MergedCell> = merges
@@ -68,7 +68,7 @@ fn merges_without(
 
 /// The record of a merge that is dissolved.
 fn unmerge_record(alloc: Global, sheet: &Worksheet, place: Position) -> Result<DiffList, EditError>
-    ensures made { IfOk result (λ list. list ≡ MergesDiff sheet.now.id sheet.now.merges (merges_without place sheet.now.merges) ∷ []) }
+    ensures output { IfOk result (λ list. list ≡ MergesDiff sheet.now.id sheet.now.merges (merges_without place sheet.now.merges) ∷ []) }
     ensures canonical { IfOk result IsCanonicalList }
     ensures only { IsOkUnless result NoMemory }
 {

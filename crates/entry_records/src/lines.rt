@@ -49,7 +49,7 @@ fn line_diff(
     line: i32,
     entry: Option<&LineAttr>,
 ) -> Result<Option<Diff>, EditError>
-    ensures made { IfOk result (λ diff. cons_option diff [] ≡ attr_record sheet axis line (option_copied entry.entry) (changed change (option_copied entry.entry))) }
+    ensures output { IfOk result (λ diff. cons_option diff [] ≡ attr_record sheet axis line (option_copied entry.entry) (changed change (option_copied entry.entry))) }
     ensures canonical { IfOk result (λ diff. IfSome diff IsCanonicalDiff) }
     ensures only { IsOkUnless result NoMemory }
 {
@@ -72,7 +72,7 @@ fn push_line_diffs<A: Axis>(
     requires low { pos 1 ≤ℤ first }
     requires high { (first +ℤ pos count) ≤ℤ pos 1048577 }
     requires list { IsCanonicalList list.old }
-    ensures made { OnOk result (list.new ≡ list.old ++ line_diffs sheet axis change lines.now first count) }
+    ensures output { OnOk result (list.new ≡ list.old ++ line_diffs sheet axis change lines.now first count) }
     ensures canonical { OnOk result (IsCanonicalList list.new) }
     ensures only { IsOkUnless result NoMemory }
 {
@@ -96,7 +96,7 @@ fn push_changes(
     requires low { pos 1 ≤ℤ first }
     requires high { (first +ℤ pos count) ≤ℤ pos 1048577 }
     requires list { IsCanonicalList list.old }
-    ensures made { OnOk result (list.new ≡ list.old ++ line_diffs sheet.now.id axis change (lines_of axis sheet.now) first count) }
+    ensures output { OnOk result (list.new ≡ list.old ++ line_diffs sheet.now.id axis change (lines_of axis sheet.now) first count) }
     ensures canonical { OnOk result (IsCanonicalList list.new) }
     ensures only { IsOkUnless result NoMemory }
 {
@@ -127,7 +127,7 @@ pub fn line_list(
 ) -> Result<DiffList, EditError>
     requires low { pos 1 ≤ℤ first }
     requires high { (first +ℤ pos count) ≤ℤ pos 1048577 }
-    ensures made { IfOk result (λ list. list ≡ line_diffs sheet.now.id axis change (lines_of axis sheet.now) first count) }
+    ensures output { IfOk result (λ list. list ≡ line_diffs sheet.now.id axis change (lines_of axis sheet.now) first count) }
     ensures canonical { IfOk result IsCanonicalList }
     ensures only { IsOkUnless result NoMemory }
 {

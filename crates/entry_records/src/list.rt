@@ -28,7 +28,7 @@ pub fn cell_diff(
 ) -> Option<Diff>
     requires old { IfSome old IsCanonicalCell }
     requires new { IfSome new IsCanonicalCell }
-    ensures made { cons_option result [] ≡ entry_record (CellKey sheet position) (CellValue old) (CellValue new) }
+    ensures output { cons_option result [] ≡ entry_record (CellKey sheet position) (CellValue old) (CellValue new) }
     ensures canonical { IfSome result IsCanonicalDiff }
 {
     if old == new {
@@ -49,7 +49,7 @@ pub fn link_diff(
     old: Option<Link>,
     new: Option<Link>,
 ) -> Option<Diff>
-    ensures made { cons_option result [] ≡ entry_record (LinkKey sheet position) (LinkValue old) (LinkValue new) }
+    ensures output { cons_option result [] ≡ entry_record (LinkKey sheet position) (LinkValue old) (LinkValue new) }
     ensures canonical { IfSome result IsCanonicalDiff }
 {
     if old == new {
@@ -65,7 +65,7 @@ pub fn link_diff(
 
 /// The diff of the merges of a sheet that get others in their place.
 pub fn merges_diff(sheet: &Worksheet, new: MergeList) -> Result<Diff, EditError>
-    ensures made { IfOk result (λ diff. diff ≡ MergesDiff sheet.now.id sheet.now.merges new) }
+    ensures output { IfOk result (λ diff. diff ≡ MergesDiff sheet.now.id sheet.now.merges new) }
     ensures canonical { IfOk result IsCanonicalDiff }
     ensures only { IsOkUnless result NoMemory }
 {
@@ -84,7 +84,7 @@ pub fn attr_diff(
     old: Option<LineAttr>,
     new: Option<LineAttr>,
 ) -> Option<Diff>
-    ensures made { cons_option result [] ≡ attr_record sheet axis line old new }
+    ensures output { cons_option result [] ≡ attr_record sheet axis line old new }
     ensures canonical { IfSome result IsCanonicalDiff }
 {
     if old == new {
@@ -103,7 +103,7 @@ pub fn attr_diff(
 pub fn push_diff(list: &mut Items<Diff>, diff: Option<Diff>) -> Result<(), EditError>
     requires list { IsCanonicalList list.old }
     requires diff { IfSome diff IsCanonicalDiff }
-    ensures made { OnOk result (list.new ≡ list.old ++ cons_option diff []) }
+    ensures output { OnOk result (list.new ≡ list.old ++ cons_option diff []) }
     ensures canonical { OnOk result (IsCanonicalList list.new) }
     ensures only { IsOkUnless result NoMemory }
 {
@@ -131,7 +131,7 @@ pub fn list_of_three(
     requires first { IfSome first IsCanonicalDiff }
     requires second { IfSome second IsCanonicalDiff }
     requires third { IfSome third IsCanonicalDiff }
-    ensures made { Returns result (Ok (cons_option first (cons_option second (cons_option third [])))) }
+    ensures output { Returns result (Ok (cons_option first (cons_option second (cons_option third [])))) }
     ensures canonical { IfOk result IsCanonicalList }
 {
     let mut diffs = Items::empty(alloc);
@@ -158,7 +158,7 @@ pub fn list_of_two(
 ) -> Result<DiffList, EditError>
     requires first { IfSome first IsCanonicalDiff }
     requires second { IfSome second IsCanonicalDiff }
-    ensures made { Returns result (Ok (cons_option first (cons_option second []))) }
+    ensures output { Returns result (Ok (cons_option first (cons_option second []))) }
     ensures canonical { IfOk result IsCanonicalList }
 {
     let mut diffs = Items::with_room(alloc, count_of(&first, &second))?;

@@ -38,7 +38,7 @@ fn push_cells(
     requires cells { CanonicalCells cells.now }
     requires plan { CanonicalCellPlan plan.now }
     requires list { IsCanonicalList list.old }
-    ensures made { OnOk result (list.new ≡ list.old ++ cell_diffs id plan.now cells.now) }
+    ensures output { OnOk result (list.new ≡ list.old ++ cell_diffs id plan.now cells.now) }
     ensures canonical { OnOk result (IsCanonicalList list.new) }
     ensures only { IsOkUnless result NoMemory }
 {
@@ -59,7 +59,7 @@ fn push_links(
     list: &mut Items<Diff>,
 ) -> Result<(), EditError>
     requires { IsCanonicalList list.old }
-    ensures made { OnOk result (list.new ≡ list.old ++ link_diffs id plan.now links.now) }
+    ensures output { OnOk result (list.new ≡ list.old ++ link_diffs id plan.now links.now) }
     ensures canonical { OnOk result (IsCanonicalList list.new) }
     ensures only { IsOkUnless result NoMemory }
 {
@@ -81,7 +81,7 @@ fn push_attrs<A: Axis>(
     list: &mut Items<Diff>,
 ) -> Result<(), EditError>
     requires { IsCanonicalList list.old }
-    ensures made { OnOk result (list.new ≡ list.old ++ attr_diffs id axis plan.now lines.now) }
+    ensures output { OnOk result (list.new ≡ list.old ++ attr_diffs id axis plan.now lines.now) }
     ensures canonical { OnOk result (IsCanonicalList list.new) }
     ensures only { IsOkUnless result NoMemory }
 {
@@ -98,7 +98,7 @@ fn push_attrs<A: Axis>(
 /// in this order and in that of their keys, where they do not stay. `NoMemory` alone is an error.
 pub fn plan_list(alloc: Global, sheet: &Worksheet, plan: &SheetPlan) -> Result<DiffList, EditError>
     requires { CanonicalCellPlan plan.now.cells }
-    ensures made { IfOk result (λ list. list ≡ plan_diffs plan.now sheet.now) }
+    ensures output { IfOk result (λ list. list ≡ plan_diffs plan.now sheet.now) }
     ensures canonical { IfOk result IsCanonicalList }
     ensures only { IsOkUnless result NoMemory }
 {

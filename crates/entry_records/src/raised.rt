@@ -17,7 +17,7 @@ use sheet_history::{Diff, LineAxis};
 
 /// The diff of a row where a text asks for a height, or none where the row stays.
 pub fn raised_diff(sheet: &Worksheet, row: i32, needed: i32) -> Result<Option<Diff>, EditError>
-    ensures made { IfOk result (λ diff. cons_option diff [] ≡ attr_record sheet.now.id Rows row (fin.get sheet.now.rows row) (raised needed (fin.get sheet.now.rows row))) }
+    ensures output { IfOk result (λ diff. cons_option diff [] ≡ attr_record sheet.now.id Rows row (fin.get sheet.now.rows row) (raised needed (fin.get sheet.now.rows row))) }
     ensures canonical { IfOk result (λ diff. IfSome diff IsCanonicalDiff) }
     ensures only { IsOkUnless result NoMemory }
 {

@@ -28,13 +28,13 @@ pub trait TreeChange {
     /// The tree that a tree becomes.
     fn changed(&self, alloc: Global, tree: &Shared<Node>) -> Result<Shared<Node>, EditError>
         requires { Takes self.now tree.now }
-        ensures tree { IfOk result (λ made. made ≡ change_of self.now tree.now) }
+        ensures tree { IfOk result (λ output. output ≡ change_of self.now tree.now) }
         ensures only { IsOkUnless result NoMemory };
 }
 
 fn cfvo_changed<M: TreeChange>(alloc: Global, cfvo: &Cfvo, change: &M) -> Result<Cfvo, EditError>
     requires { CfvoHas (M.Takes change.now) cfvo.now }
-    ensures cfvo { IfOk result (λ made. made ≡ cfvo_changed (M.change_of change.now) cfvo.now) }
+    ensures cfvo { IfOk result (λ output. output ≡ cfvo_changed (M.change_of change.now) cfvo.now) }
     ensures only { IsOkUnless result NoMemory }
 {
     match cfvo {
@@ -50,7 +50,7 @@ fn bound_changed<M: TreeChange>(
     change: &M,
 ) -> Result<Option<Cfvo>, EditError>
     requires { IfSome cfvo.now (CfvoHas (M.Takes change.now)) }
-    ensures cfvo { IfOk result (λ made. made ≡ option_map (cfvo_changed (M.change_of change.now)) cfvo.now) }
+    ensures cfvo { IfOk result (λ output. output ≡ option_map (cfvo_changed (M.change_of change.now)) cfvo.now) }
     ensures only { IsOkUnless result NoMemory }
 {
     match cfvo {
@@ -65,7 +65,7 @@ fn second_changed<M: TreeChange>(
     change: &M,
 ) -> Result<Option<Shared<Node>>, EditError>
     requires { IfSome tree.now (M.Takes change.now) }
-    ensures tree { IfOk result (λ made. made ≡ option_map (M.change_of change.now) tree.now) }
+    ensures tree { IfOk result (λ output. output ≡ option_map (M.change_of change.now) tree.now) }
     ensures only { IsOkUnless result NoMemory }
 {
     match tree {
@@ -80,7 +80,7 @@ fn color_changed<M: TreeChange>(
     change: &M,
 ) -> Result<ColorThreshold, EditError>
     requires { CfvoHas (M.Takes change.now) threshold.now.cfvo }
-    ensures threshold { IfOk result (λ made. made ≡ color_changed (M.change_of change.now) threshold.now) }
+    ensures threshold { IfOk result (λ output. output ≡ color_changed (M.change_of change.now) threshold.now) }
     ensures only { IsOkUnless result NoMemory }
 {
     Ok(ColorThreshold {
@@ -95,14 +95,14 @@ fn colors_changed<M: TreeChange>(
     change: &M,
 ) -> Result<Items<ColorThreshold>, EditError>
     requires { All (λ threshold. CfvoHas (M.Takes change.now) threshold.cfvo) thresholds.now }
-    ensures thresholds { IfOk result (λ made. made ≡ map (color_changed (M.change_of change.now)) thresholds.now) }
+    ensures thresholds { IfOk result (λ output. output ≡ map (color_changed (M.change_of change.now)) thresholds.now) }
     ensures only { IsOkUnless result NoMemory }
 {
-    let mut made = Items::empty(alloc);
+    let mut output = Items::empty(alloc);
     for threshold in thresholds {
-        made.push(color_changed(alloc, threshold, change)?)?;
+        output.push(color_changed(alloc, threshold, change)?)?;
     }
-    Ok(made)
+    Ok(output)
 }
 
 fn icon_changed<M: TreeChange>(
@@ -111,7 +111,7 @@ fn icon_changed<M: TreeChange>(
     change: &M,
 ) -> Result<IconThreshold, EditError>
     requires { CfvoHas (M.Takes change.now) threshold.now.cfvo }
-    ensures threshold { IfOk result (λ made. made ≡ icon_changed (M.change_of change.now) threshold.now) }
+    ensures threshold { IfOk result (λ output. output ≡ icon_changed (M.change_of change.now) threshold.now) }
     ensures only { IsOkUnless result NoMemory }
 {
     Ok(IconThreshold {
@@ -126,14 +126,14 @@ fn icons_changed<M: TreeChange>(
     change: &M,
 ) -> Result<Items<IconThreshold>, EditError>
     requires { All (λ threshold. CfvoHas (M.Takes change.now) threshold.cfvo) thresholds.now }
-    ensures thresholds { IfOk result (λ made. made ≡ map (icon_changed (M.change_of change.now)) thresholds.now) }
+    ensures thresholds { IfOk result (λ output. output ≡ map (icon_changed (M.change_of change.now)) thresholds.now) }
     ensures only { IsOkUnless result NoMemory }
 {
-    let mut made = Items::empty(alloc);
+    let mut output = Items::empty(alloc);
     for threshold in thresholds {
-        made.push(icon_changed(alloc, threshold, change)?)?;
+        output.push(icon_changed(alloc, threshold, change)?)?;
     }
-    Ok(made)
+    Ok(output)
 }
 
 fn formula_changed<M: TreeChange>(
@@ -144,7 +144,7 @@ fn formula_changed<M: TreeChange>(
     change: &M,
 ) -> Result<CfRule, EditError>
     requires { M.Takes change.now formula.now }
-    ensures rule { IfOk result (λ made. made ≡ Formula (M.change_of change.now formula.now) style.now stop_if_true) }
+    ensures rule { IfOk result (λ output. output ≡ Formula (M.change_of change.now formula.now) style.now stop_if_true) }
     ensures only { IsOkUnless result NoMemory }
 {
     Ok(CfRule::Formula {
@@ -163,8 +163,8 @@ fn formulas_changed<M: TreeChange>(
 ) -> Result<(Shared<Node>, Option<Shared<Node>>), EditError>
     requires first { M.Takes change.now formula.now }
     requires second { IfSome formula2.now (M.Takes change.now) }
-    ensures first { IfOk result (λ made. made.0 ≡ M.change_of change.now formula.now) }
-    ensures second { IfOk result (λ made. made.1 ≡ option_map (M.change_of change.now) formula2.now) }
+    ensures first { IfOk result (λ output. output.0 ≡ M.change_of change.now formula.now) }
+    ensures second { IfOk result (λ output. output.1 ≡ option_map (M.change_of change.now) formula2.now) }
     ensures only { IsOkUnless result NoMemory }
 {
     let first = change.changed(alloc, formula)?;
@@ -179,7 +179,7 @@ fn cell_is(
     style: &Shared<Style>,
     stop_if_true: bool,
 ) -> Result<CfRule, EditError>
-    ensures rule { IfOk result (λ made. made ≡ CellIs operator formulas.0 formulas.1 style.now stop_if_true) }
+    ensures rule { IfOk result (λ output. output ≡ CellIs operator formulas.0 formulas.1 style.now stop_if_true) }
     ensures only { IsOkUnless result NoMemory }
 {
     let style = copy_of(style)?;
@@ -202,8 +202,8 @@ fn bounds_changed<M: TreeChange>(
 ) -> Result<(Option<Cfvo>, Option<Cfvo>), EditError>
     requires min { IfSome min.now (CfvoHas (M.Takes change.now)) }
     requires max { IfSome max.now (CfvoHas (M.Takes change.now)) }
-    ensures min { IfOk result (λ made. made.0 ≡ option_map (cfvo_changed (M.change_of change.now)) min.now) }
-    ensures max { IfOk result (λ made. made.1 ≡ option_map (cfvo_changed (M.change_of change.now)) max.now) }
+    ensures min { IfOk result (λ output. output.0 ≡ option_map (cfvo_changed (M.change_of change.now)) min.now) }
+    ensures max { IfOk result (λ output. output.1 ≡ option_map (cfvo_changed (M.change_of change.now)) max.now) }
     ensures only { IsOkUnless result NoMemory }
 {
     let low = bound_changed(alloc, min, change)?;
@@ -218,7 +218,7 @@ fn style_rule_changed<M: TreeChange>(
     change: &M,
 ) -> Result<CfRule, EditError>
     requires { HasTrees (M.Takes change.now) rule.now }
-    ensures rule { IfOk result (λ made. made ≡ style_rule_changed (M.change_of change.now) rule.now) }
+    ensures rule { IfOk result (λ output. output ≡ style_rule_changed (M.change_of change.now) rule.now) }
     ensures only { IsOkUnless result NoMemory }
 {
     match rule {
@@ -249,7 +249,7 @@ fn icon_rule_changed<M: TreeChange>(
     change: &M,
 ) -> Result<CfRule, EditError>
     requires { HasTrees (M.Takes change.now) rule.now }
-    ensures rule { IfOk result (λ made. made ≡ icon_rule_changed (M.change_of change.now) rule.now) }
+    ensures rule { IfOk result (λ output. output ≡ icon_rule_changed (M.change_of change.now) rule.now) }
     ensures only { IsOkUnless result NoMemory }
 {
     match rule {
@@ -285,7 +285,7 @@ pub fn change_trees<M: TreeChange>(
     change: &M,
 ) -> Result<CfRule, EditError>
     requires { HasTrees (M.Takes change.now) rule.now }
-    ensures rule { IfOk result (λ made. made ≡ trees_changed (M.change_of change.now) rule.now) }
+    ensures rule { IfOk result (λ output. output ≡ trees_changed (M.change_of change.now) rule.now) }
     ensures only { IsOkUnless result NoMemory }
 {
     match rule {

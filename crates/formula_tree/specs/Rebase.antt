@@ -7,15 +7,15 @@ use Rattle.formula_tree.specs.Corners.{is_inside}
 use Rattle.formula_tree.specs.Moved.{Mapping, moved}
 
 -- a corner as it is, lost where it lies outside the sheet
-unfoldable pub kept : Position → Corner → Option Corner
-kept to corner = if is_inside to corner then Some corner else None
+unfoldable pub same_corner : Position → Corner → Option Corner
+same_corner to corner = if is_inside to corner then Some corner else None
 
 -- each corner as it is, seen from the formula's new place
 abbrev pub filling : Position → Mapping
 filling to = record {
-  reference = λ sheet corner. kept to corner;
-  first = λ sheet first second. kept to first;
-  second = λ sheet first second. kept to second;
+  reference = λ sheet corner. same_corner to corner;
+  first = λ sheet first second. same_corner to first;
+  second = λ sheet first second. same_corner to second;
 }
 
 -- the tree of a formula at that place

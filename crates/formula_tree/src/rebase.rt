@@ -1,6 +1,6 @@
 ghost use Rattle.std.specs.Prelude.{◌≡◌, IfOk, IsOkUnless};
 ghost use Rattle.base_values.specs.declared.EditError.TheVariants.{NoMemory};
-ghost use Rattle.formula_tree.specs.Rebase.{kept, filling, rebased};
+ghost use Rattle.formula_tree.specs.Rebase.{same_corner, filling, rebased};
 
 use crate::corner::{Corner, is_inside};
 use crate::moved::{CornerMap, move_node};
@@ -9,9 +9,9 @@ use base_shared::Shared;
 use base_values::{EditError, Position, Text};
 use std::alloc::Global;
 
-#[tactic(auto, unfolding(crate::specs::Rebase::kept))]
-fn kept(to: Position, corner: Corner) -> Option<Corner>
-    ensures { result ≡ kept to corner }
+#[tactic(auto, unfolding(crate::specs::Rebase::same_corner))]
+fn same_corner(to: Position, corner: Corner) -> Option<Corner>
+    ensures { result ≡ same_corner to corner }
 {
     if is_inside(to, corner) {
         Some(corner)
@@ -30,7 +30,7 @@ impl CornerMap for Filling {
     ghost mapping = { λ self. filling self.to };
 
     fn reference(&self, _sheet: &Option<Shared<Text>>, corner: Corner) -> Option<Corner> {
-        kept(self.to, corner)
+        same_corner(self.to, corner)
     }
 
     fn range(
@@ -39,7 +39,7 @@ impl CornerMap for Filling {
         first: Corner,
         second: Corner,
     ) -> (Option<Corner>, Option<Corner>) {
-        (kept(self.to, first), kept(self.to, second))
+        (same_corner(self.to, first), same_corner(self.to, second))
     }
 }
 

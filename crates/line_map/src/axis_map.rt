@@ -50,14 +50,14 @@ fn moved_lines<A: Axis, B: Axis, M: LineMap<A>, V: Exact + Drop>(
 ) -> Result<AxisMap<B, V>, EditError>
     requires last { A.along.last ≡ B.along.last }
     requires valid { M.is_valid lines.now ≡ true }
-    ensures map { IfOk result (λ made. made ≡ moved_map (M.moves lines.now).to map.now) }
+    ensures map { IfOk result (λ output. output ≡ moved_map (M.moves lines.now).to map.now) }
     ensures only { IsOkUnless result NoMemory }
 {
-    let mut made = Items::empty(alloc);
+    let mut output = Items::empty(alloc);
     for (line, value) in map.iter() {
-        put_last(moved_entry(lines, *line, value)?, &mut made)?;
+        put_last(moved_entry(lines, *line, value)?, &mut output)?;
     }
-    AxisMap::of_entries(alloc, made)
+    AxisMap::of_entries(alloc, output)
 }
 
 /// Keeps one entry, if its line goes nowhere.
@@ -112,14 +112,14 @@ pub fn overlaid_lines<B: Axis, V: Exact + Drop>(
     map: AxisMap<B, V>,
 ) -> Result<AxisMap<B, V>, EditError>
     requires { LinesLie B.along over.now }
-    ensures map { IfOk result (λ made. made ≡ overlaid over.now map) }
+    ensures map { IfOk result (λ output. output ≡ overlaid over.now map) }
     ensures only { IsOkUnless result NoMemory }
 {
-    let mut made = map;
+    let mut output = map;
     for (line, value) in over.iter() {
-        put_line(*line, value, &mut made)?;
+        put_line(*line, value, &mut output)?;
     }
-    Ok(made)
+    Ok(output)
 }
 
 /// What lines take that come to stand between two others: what both of these have, where that is
@@ -193,15 +193,15 @@ fn held_before<B: Axis, V: Drop>(map: &AxisMap<B, V>, line: i32) -> Option<&V>
 fn give_block<B: Axis, V: Exact + Drop>(
     block: Block,
     map: &AxisMap<B, V>,
-    made: &mut AxisMap<B, V>,
+    output: &mut AxisMap<B, V>,
 ) -> Result<(), EditError>
     requires { LinesLie B.along map.now }
-    ensures made { OnOk result (made.new ≡ overlaid (block_heirs B.along.last V.eq map.now block) made.old) }
+    ensures output { OnOk result (output.new ≡ overlaid (block_heirs B.along.last V.eq map.now block) output.old) }
     ensures only { IsOkUnless result NoMemory }
 {
     let (before, after) = (held_before(map, block.first), map.get(block.first));
     match heir(before, after) {
-        Some(value) => fill_block(block, value, made),
+        Some(value) => fill_block(block, value, output),
         None => Ok(()),
     }
 }
@@ -210,17 +210,17 @@ fn give_block<B: Axis, V: Exact + Drop>(
 fn give_heirs<B: Axis, V: Exact + Drop>(
     inserted: Option<Block>,
     map: &AxisMap<B, V>,
-    made: &mut AxisMap<B, V>,
+    output: &mut AxisMap<B, V>,
 ) -> Result<(), EditError>
     requires { LinesLie B.along map.now }
-    ensures made { OnOk result (made.new ≡ overlaid (heirs B.along V.eq inserted map.now) made.old) }
+    ensures output { OnOk result (output.new ≡ overlaid (heirs B.along V.eq inserted map.now) output.old) }
     ensures only { IsOkUnless result NoMemory }
 {
     if !B::of(false, true) {
         return Ok(());
     }
     match inserted {
-        Some(block) => give_block(block, map, made),
+        Some(block) => give_block(block, map, output),
         None => Ok(()),
     }
 }
@@ -233,12 +233,12 @@ fn carried_lines<A: Axis, B: Axis, M: LineMap<A>, V: Exact + Drop>(
 ) -> Result<AxisMap<B, V>, EditError>
     requires last { A.along.last ≡ B.along.last }
     requires lie { LinesLie B.along map.now }
-    ensures map { IfOk result (λ made. made ≡ overlaid (heirs B.along V.eq (way route.now).moves.inserted map.now) (moved_map (way route.now).moves.to map.now)) }
+    ensures map { IfOk result (λ output. output ≡ overlaid (heirs B.along V.eq (way route.now).moves.inserted map.now) (moved_map (way route.now).moves.to map.now)) }
     ensures only { IsOkUnless result NoMemory }
 {
-    let mut made = moved_lines(alloc, route.map, map)?;
-    give_heirs(route.inserted(), map, &mut made)?;
-    Ok(made)
+    let mut output = moved_lines(alloc, route.map, map)?;
+    give_heirs(route.inserted(), map, &mut output)?;
+    Ok(output)
 }
 
 /// What lines have of their own goes with them; columns that are brought in take what the columns

@@ -98,14 +98,17 @@ pub fn carried_with_kept<A: Axis, M: LineMap<A>, F: Follower<A> + Exact>(
 {
     // For the proof: the route is a way.
     route.is_way();
-    let mut made = Items::empty(alloc);
+    let mut output = Items::empty(alloc);
     let mut lost = PositionMap::new(alloc);
     let mut parts = PositionMap::new(alloc);
     for (from, item) in map.iter() {
         let entry = carried_entry(alloc, route, *from, item)?;
-        put_last(entry.carried, &mut made)?;
+        put_last(entry.carried, &mut output)?;
         put_made(entry.lost, &mut lost)?;
         put_made(entry.part, &mut parts)?;
     }
-    Ok((PlaceMap::of_entries(alloc, made)?, KeptMap { lost, parts }))
+    Ok((
+        PlaceMap::of_entries(alloc, output)?,
+        KeptMap { lost, parts },
+    ))
 }

@@ -54,11 +54,11 @@ impl<A: Axis, F: Follower<A>> Follower<A> for Items<F> {
         alloc: Global,
         route: &Route<'_, A, M>,
     ) -> Result<Items<F>, EditError> {
-        let mut made = Items::empty(alloc);
+        let mut output = Items::empty(alloc);
         for item in self.as_slice() {
-            made.push(item.carry(alloc, route)?)?;
+            output.push(item.carry(alloc, route)?)?;
         }
-        Ok(made)
+        Ok(output)
     }
 
     fn part<M: LineMap<A>>(
@@ -66,11 +66,11 @@ impl<A: Axis, F: Follower<A>> Follower<A> for Items<F> {
         alloc: Global,
         route: &Route<'_, A, M>,
     ) -> Result<Option<Items<Option<F::Part>>>, EditError> {
-        let mut made = Items::empty(alloc);
+        let mut output = Items::empty(alloc);
         for item in self.as_slice() {
-            made.push(item.part(alloc, route)?)?;
+            output.push(item.part(alloc, route)?)?;
         }
-        Ok(Some(made))
+        Ok(Some(output))
     }
 
     fn restore<M: LineMap<A>>(
@@ -79,13 +79,13 @@ impl<A: Axis, F: Follower<A>> Follower<A> for Items<F> {
         route: &Route<'_, A, M>,
         part: &Items<Option<F::Part>>,
     ) -> Result<Items<F>, EditError> {
-        let mut made = Items::empty(alloc);
+        let mut output = Items::empty(alloc);
         let (items, parts) = (self.as_slice(), part.as_slice());
         let both = items.len().min(parts.len());
         for i in 0..both {
-            made.push(settled(alloc, &items[i], route, &parts[i])?)?;
+            output.push(settled(alloc, &items[i], route, &parts[i])?)?;
         }
-        Ok(made)
+        Ok(output)
     }
 
     ghost stays = { λ w is. items_stay (F.Lies w) (F.Lies (back w)) (F.carry_of w) (F.stays w is) };

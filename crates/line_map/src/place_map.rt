@@ -65,16 +65,16 @@ pub fn carried_places<A: Axis, M: LineMap<A>, F: Follower<A>>(
     map: &PlaceMap<F>,
 ) -> Result<PlaceMap<F>, EditError>
     requires { AllLie F.Lies (way route.now) map.now }
-    ensures map { IfOk result (λ made. made ≡ places_carried F.carry_of (way route.now) map.now) }
+    ensures map { IfOk result (λ output. output ≡ places_carried F.carry_of (way route.now) map.now) }
     ensures only { IsOkUnless result NoMemory }
 {
     // For the proof: the route is a way.
     route.is_way();
-    let mut made = Items::empty(alloc);
+    let mut output = Items::empty(alloc);
     for (from, item) in map.iter() {
-        put_last(carried_entry(alloc, route, *from, item)?, &mut made)?;
+        put_last(carried_entry(alloc, route, *from, item)?, &mut output)?;
     }
-    PlaceMap::of_entries(alloc, made)
+    PlaceMap::of_entries(alloc, output)
 }
 
 /// Keeps one entry, if its place goes nowhere.
@@ -184,16 +184,16 @@ pub fn restored_places<A: Axis, M: LineMap<A>, F: Follower<A>, L: Parts<Part = F
 ) -> Result<PlaceMap<F>, EditError>
     requires lie { AllLie F.Lies (back (way route.now)) map.now }
     requires fit { PartsFit F.Fits (way route.now) (L.part_at parts.now) }
-    ensures map { IfOk result (λ made. made ≡ places_restored F.carry_of F.restore_of (way route.now) (L.part_at parts.now) map.now) }
+    ensures map { IfOk result (λ output. output ≡ places_restored F.carry_of F.restore_of (way route.now) (L.part_at parts.now) map.now) }
     ensures only { IsOkUnless result NoMemory }
 {
     // For the proof: the route is a way.
     route.is_way();
-    let mut made = Items::empty(alloc);
+    let mut output = Items::empty(alloc);
     for (to, item) in map.iter() {
-        put_last(restored_entry(alloc, route, parts, *to, item)?, &mut made)?;
+        put_last(restored_entry(alloc, route, parts, *to, item)?, &mut output)?;
     }
-    PlaceMap::of_entries(alloc, made)
+    PlaceMap::of_entries(alloc, output)
 }
 
 /// Puts a copy of an item at a place.
@@ -216,14 +216,14 @@ pub fn overlaid_places<F: Exact + Drop>(
     map: PlaceMap<F>,
 ) -> Result<PlaceMap<F>, EditError>
     requires { KeysInside over.now }
-    ensures map { IfOk result (λ made. made ≡ overlaid over.now map) }
+    ensures map { IfOk result (λ output. output ≡ overlaid over.now map) }
     ensures only { IsOkUnless result NoMemory }
 {
-    let mut made = map;
+    let mut output = map;
     for (place, item) in over.iter() {
-        put_entry(*place, item, &mut made)?;
+        put_entry(*place, item, &mut output)?;
     }
-    Ok(made)
+    Ok(output)
 }
 
 /// What is kept of a map of followers.

@@ -32,17 +32,17 @@ fn merges_left<A: Axis, M: LineMap<A>>(
     merges: &[MergedCell],
 ) -> Result<MergeList, EditError>
     requires { MergesLie merges.now }
-    ensures value { IfOk result (λ made. made ≡ filter_map (merge_carried (way route.now)) merges.now) }
+    ensures value { IfOk result (λ output. output ≡ filter_map (merge_carried (way route.now)) merges.now) }
     ensures inside { IfOk result MergesLie }
     ensures only { IsOkUnless result NoMemory }
 {
     // For the proof: the route is a way.
     route.is_way();
-    let mut made = Items::empty(alloc);
+    let mut output = Items::empty(alloc);
     for merge in merges {
-        put_last(carried_merge(route, *merge), &mut made)?;
+        put_last(carried_merge(route, *merge), &mut output)?;
     }
-    Ok(MergeList::new(made))
+    Ok(MergeList::new(output))
 }
 
 /// The merges of a sheet, carried along a route: of those of the edited sheet the ones that are left
@@ -55,7 +55,7 @@ pub fn carried_merges<A: Axis, M: LineMap<A>>(
     merges: &MergeList,
 ) -> Result<MergeList, EditError>
     requires { MergesLie merges.now }
-    ensures value { IfOk result (λ made. made ≡ merges_carried (way route.now) merges.now) }
+    ensures value { IfOk result (λ output. output ≡ merges_carried (way route.now) merges.now) }
     ensures inside { IfOk result MergesLie }
     ensures only { IsOkUnless result NoMemory }
 {

@@ -8,7 +8,7 @@ use Rattle.base_values.specs.declared.EditError.TheVariants.{InvalidArea}
 use Rattle.base_values.specs.Answers.{map_ok}
 use Rattle.base_values.specs.KeyMap.{with_entry}
 use Rattle.sheet_grid.specs.declared.LineAttr.{LineAttr}
-use Rattle.sheet_grid.specs.Lines.{attr_of, kept_line, own_width, size_of, with_hidden, with_size}
+use Rattle.sheet_grid.specs.Lines.{attr_of, stored_line, own_width, size_of, with_hidden, with_size}
 use Rattle.line_sizes.specs.declared.change.LineChange.{LineChange}
 use Rattle.line_sizes.specs.declared.change.LineChange.TheVariants.{Size, Hidden}
 
@@ -19,7 +19,7 @@ after_change (Hidden hidden) attr = with_hidden hidden attr
 
 -- its entry then; a line that is left with nothing has none
 abbrev pub changed_entry : LineChange → Option LineAttr → Option LineAttr
-changed_entry change entry = kept_line (Some (after_change change (attr_of entry)))
+changed_entry change entry = stored_line (Some (after_change change (attr_of entry)))
 
 -- the change of rows to a height, which is their own also where it is the usual one; one below 0 is refused
 abbrev pub height_change : ℤ → Result LineChange EditError

@@ -4,7 +4,7 @@ ghost use Rattle.std.specs.Prelude.{◌≡◌, ◌≢◌, ◌≤ℤ◌, ◌+ℤ�
 ghost use Rattle.std.specs.Option.{option_copied};
 ghost use Rattle.base_values.specs.Answers.{Returns};
 ghost use Rattle.base_values.specs.declared.EditError.TheVariants.{NoMemory};
-ghost use Rattle.sheet_grid.specs.Lines.{attr_of, kept_line, own_width, size_of};
+ghost use Rattle.sheet_grid.specs.Lines.{attr_of, stored_line, own_width, size_of};
 ghost use Rattle.line_sizes.specs.LineChanges.{after_change, changed_entry, has_lines, height_change, width_change, line_count, lines_from};
 
 use base_values::{EditError, Exact, copy_of};
@@ -89,8 +89,8 @@ fn attr_of(entry: Option<&LineAttr>) -> Result<LineAttr, EditError>
 }
 
 /// What a sheet stores of a line: nothing where it has nothing of its own.
-fn kept_line(attr: LineAttr) -> Option<LineAttr>
-    ensures { result ≡ kept_line (Some attr) }
+fn stored_line(attr: LineAttr) -> Option<LineAttr>
+    ensures { result ≡ stored_line (Some attr) }
 {
     if attr.is_plain() { None } else { Some(attr) }
 }
@@ -121,7 +121,7 @@ pub fn changed_entry(
     ensures { Returns result (Ok (changed_entry change (option_copied entry.entry))) }
 {
     let attr = attr_of(entry)?;
-    Ok(kept_line(after_change(change, attr)))
+    Ok(stored_line(after_change(change, attr)))
 }
 
 /// Whether two lines are of an axis that ends with a line, the second one not before the first. It takes

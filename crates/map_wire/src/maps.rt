@@ -34,7 +34,7 @@ impl<X: PlainKey<P::Value>, K: Part<Value = X::Key, Context = ()>, P: Part> Part
 
     ghost spelling = { λ map. spell_map K.spelling P.spelling (X.seen map) };
 
-    ghost reading = { map_of_at X.order X.made K.reading P.reading };
+    ghost reading = { map_of_at X.order X.model K.reading P.reading };
 
     fn put(out: &mut Vec<u8>, value: &KeyMap<X, P::Value>) -> Result<(), AllocError> {
         put_map::<X, K, P>(out, value)?;
@@ -49,7 +49,7 @@ impl<X: PlainKey<P::Value>, K: Part<Value = X::Key, Context = ()>, P: Part> Part
         map_at::<X, K, P>(alloc, context, bytes)
     }
 
-    ghost format = { map_format (order_total X.ordered X.Key.total) (order_exact X.ordered X.Key.equals X.Key.matches_eq) K.format P.format K.some X.seen X.made X.seen_made X.made_seen };
+    ghost format = { map_format (order_total X.ordered X.Key.total) (order_exact X.ordered X.Key.equals X.Key.matches_eq) K.format P.format K.some X.seen X.model X.seen_model X.model_seen };
 
     ghost some = { λ map. Prim.omega arith };
 }

@@ -74,7 +74,7 @@ fn map_by_steps<'a, X: MapKey<P::Value>, K: Part<Value = X::Key, Context = ()>, 
     bytes: &'a [u8],
 ) -> Result<(KeyMap<X, P::Value>, &'a [u8]), EditError>
     requires inside { Within K.Fits X.fits }
-    ensures { Answers (map_ok (λ x. (x.0, x.1.now)) result) (map_of_at X.order X.made K.reading P.reading bytes.now) }
+    ensures { Answers (map_ok (λ x. (x.0, x.1.now)) result) (map_of_at X.order X.model K.reading P.reading bytes.now) }
 {
     let (entries, rest) = entries_at::<X, K, P>(alloc, context, bytes)?;
     let map = KeyMap::of_entries(alloc, entries)?;

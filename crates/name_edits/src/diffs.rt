@@ -84,7 +84,7 @@ fn goes_forward(workbook: &Workbook, change: &NameChange, kept: &KeptTrees) -> b
 
 /// The change that takes a change back.
 fn opposite(change: &NameChange) -> Result<NameChange, EditError>
-    ensures change { IfOk result (λ made. made ≡ opposite change.now) }
+    ensures change { IfOk result (λ output. output ≡ opposite change.now) }
     ensures only { IsOkUnless result NoMemory }
 {
     Ok(NameChange {
@@ -96,12 +96,12 @@ fn opposite(change: &NameChange) -> Result<NameChange, EditError>
 
 /// A copy of a workbook that has these names in place of its own.
 fn with_names(workbook: &Workbook, names: NameList) -> Result<Workbook, EditError>
-    ensures book { IfOk result (λ made. made ≡ record workbook.now { names = names }) }
+    ensures book { IfOk result (λ output. output ≡ record workbook.now { names = names }) }
     ensures only { IsOkUnless result NoMemory }
 {
-    let mut made = copy_of(workbook)?;
-    made.set_name_list(names);
-    Ok(made)
+    let mut output = copy_of(workbook)?;
+    output.set_name_list(names);
+    Ok(output)
 }
 
 /// A copy of a workbook that has these names in place of its own, and in whose formulas, those of its
@@ -115,7 +115,7 @@ fn with_updated_sheets(
     new: &str,
 ) -> Result<Workbook, EditError>
     requires { IsPlacedBook workbook.now }
-    ensures book { IfOk result (λ made. made ≡ record workbook.now {
+    ensures book { IfOk result (λ output. output ≡ record workbook.now {
       names = names;
       worksheets = map (sheet_updated index old.now new.now workbook.now.names) workbook.now.worksheets;
     }) }
@@ -138,7 +138,7 @@ fn name_made(alloc: Global, workbook: &Workbook, change: &NameChange) -> Result<
     requires placed { IsPlacedBook workbook.now }
     requires place { has_place change.now (length workbook.now.names) ≡ true }
     requires numbers { IsCanonicalChange change.now }
-    ensures book { IfOk result (λ made. made ≡ name_made change.now workbook.now) }
+    ensures book { IfOk result (λ output. output ≡ name_made change.now workbook.now) }
     ensures placed { IfOk result IsPlacedBook }
     ensures only { IsOkUnless result NoMemory }
 {
@@ -165,7 +165,7 @@ fn with_returned_sheets(
     requires placed { IsPlacedBook workbook.now }
     requires numbers { AreCanonicalTrees kept.now }
     requires trees { ArePlacedTrees kept.now }
-    ensures book { IfOk result (λ made. made ≡ record workbook.now {
+    ensures book { IfOk result (λ output. output ≡ record workbook.now {
       names = names_back Nothing old.now new.now (get kept.now.names) names.now;
       worksheets = map (sheet_returned index old.now new.now workbook.now.names kept.now) workbook.now.worksheets;
     }) }
@@ -200,7 +200,7 @@ fn name_unmade(
     requires numbers { IsCanonicalChange change.now }
     requires kept { AreCanonicalTrees kept.now }
     requires trees { ArePlacedTrees kept.now }
-    ensures book { IfOk result (λ made. made ≡ name_unmade change.now kept.now workbook.now) }
+    ensures book { IfOk result (λ output. output ≡ name_unmade change.now kept.now workbook.now) }
     ensures placed { IfOk result IsPlacedBook }
     ensures only { IsOkUnless result NoMemory }
 {

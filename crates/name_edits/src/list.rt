@@ -53,7 +53,7 @@ fn with_new(
     index: u64,
     new: &Option<DefinedName>,
 ) -> Result<Vec<DefinedName>, EditError>
-    ensures names { IfOk result (λ made. made.items ≡ name_come index new.now names.items) }
+    ensures names { IfOk result (λ output. output.items ≡ name_come index new.now names.items) }
     ensures only { IsOkUnless result NoMemory }
 {
     if let Some(name) = new {
@@ -69,13 +69,13 @@ fn changed_names(
     change: &NameChange,
 ) -> Result<Items<DefinedName>, EditError>
     requires { has_place change.now (length names.now) ≡ true }
-    ensures names { IfOk result (λ made. made ≡ names_changed change.now names.now) }
+    ensures names { IfOk result (λ output. output ≡ names_changed change.now names.now) }
     ensures only { IsOkUnless result NoMemory }
 {
     let before = copied(alloc, names)?.into_vec();
     let left = without_old(before, change.index, &change.old);
-    let made = with_new(left, change.index, &change.new)?;
-    Ok(Items::new(made))
+    let output = with_new(left, change.index, &change.new)?;
+    Ok(Items::new(output))
 }
 
 /// The names after a change. `NoMemory` alone is an error.
@@ -86,9 +86,9 @@ pub(crate) fn changed_list(
 ) -> Result<NameList, EditError>
     requires place { has_place change.now (length names.now) ≡ true }
     requires numbers { IsCanonicalChange change.now }
-    ensures names { IfOk result (λ made. made ≡ names_changed change.now names.now) }
+    ensures names { IfOk result (λ output. output ≡ names_changed change.now names.now) }
     ensures only { IsOkUnless result NoMemory }
 {
-    let made = changed_names(alloc, names.as_slice(), change)?;
-    Ok(NameList::new(made))
+    let output = changed_names(alloc, names.as_slice(), change)?;
+    Ok(NameList::new(output))
 }

@@ -44,4 +44,4 @@ planned_lines make first count = planned make (lines_from first count)
 
 -- a map where each planned key has what is planned there, which may be nothing
 abbrev pub carried_out : {K X : Type 0} {R : K → K → Ordering} → FinMap R (Option X) → FinMap R X → FinMap R X
-carried_out plan m = fold (λ made e. with_entry made e.0 e.1) m (entries plan)
+carried_out plan m = fold (λ output e. with_entry output e.0 e.1) m (entries plan)

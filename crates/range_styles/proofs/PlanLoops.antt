@@ -13,20 +13,20 @@ use Rattle.planned_maps.specs.laws.PlanWalks.{chosen_put, line_done, line_passes
 module _ {X : Type 0} (make : Position → Option X) where
   -- a plan with what is made of the place of an entry
   abbrev pub place_put : {C : Type 0} → FinMap position_cmp X → Position × C → FinMap position_cmp X
-  place_put made e = put_one make made e.0
+  place_put output e = put_one make output e.0
 
   -- what is made of the places that are left completes the plan
   abbrev pub PlacesLeft : {C : Type 0} → FinMap position_cmp X → FinMap position_cmp X → FinMap position_cmp C → List (Position × C) → Type 0
-  PlacesLeft first made places left = fold place_put made left ≡ places_put make first places
+  PlacesLeft first output places left = fold place_put output left ≡ places_put make first places
 
   module _ {V : Type 0} (test : V → Bool) (a : Along) (r : MergedCell) where
     -- a plan with what is made of the places of a line that passes a test
     abbrev pub line_put : FinMap position_cmp X → ℤ × V → FinMap position_cmp X
-    line_put made e = cond (test e.1) (line_done make a r e.0 made) made
+    line_put output e = cond (test e.1) (line_done make a r e.0 output) output
 
     -- what is made of the lines that are left completes the plan
     abbrev pub LinesLeft : FinMap position_cmp X → FinMap position_cmp X → FinMap int_cmp V → List (ℤ × V) → Type 0
-    LinesLeft first made lines left = fold line_put made left ≡ chosen_put make test a r first lines
+    LinesLeft first output lines left = fold line_put output left ≡ chosen_put make test a r first lines
 
 -- the lines that pass a test, whose places pass another one
 abbrev pub line_test : {V : Type 0} → (Position → Bool) → (V → Bool) → Along → MergedCell → ℤ × V → Bool

@@ -15,7 +15,7 @@ use Rattle.cell_content.specs.declared.Content.{Content}
 use Rattle.cell_content.specs.declared.Content.TheVariants.{Empty}
 use Rattle.sheet_grid.specs.declared.Cell.{Cell}
 use Rattle.sheet_grid.specs.declared.LineAttr.{LineAttr}
-use Rattle.sheet_grid.specs.Lines.{attr_of, kept_line, own_line_style, with_style}
+use Rattle.sheet_grid.specs.Lines.{attr_of, stored_line, own_line_style, with_style}
 use Rattle.sheet_grid.specs.Sheet.{Sheet, shown_style}
 use Rattle.sheet_grid.specs.DefaultParts.{is_default}
 use Rattle.range_styles.specs.declared.plan.SheetPlan.{SheetPlan}
@@ -24,8 +24,8 @@ use Rattle.planned_maps.specs.Planned.{lines_from, planned_lines, planned_places
 use Rattle.range_styles.specs.StyleRanges.{touches, touches_line}
 
 -- what a change makes of the style that a place shows, and whether it takes that style
-abbrev pub Made : Type 0
-Made = Position → Style → Style
+abbrev pub StyleAt : Type 0
+StyleAt = Position → Style → Style
 
 abbrev pub Accepts : Type 0
 Accepts = Position → Style → Bool
@@ -42,9 +42,9 @@ abbrev pub styled_cell : Option Cell → Style → Cell
 styled_cell entry style = record { content = content_of entry; style = style }
 
 -- what a place of a range gets: a cell with what the change makes of the style that the place shows
-abbrev pub place_styled : StyleRange → Made → Sheet → Position → Option (Option Cell)
-place_styled range made sheet place =
-    if touches range sheet place then Some (Some (styled_cell (get sheet.cells place) (made place (shown_style sheet place)))) else None
+abbrev pub place_styled : StyleRange → StyleAt → Sheet → Position → Option (Option Cell)
+place_styled range output sheet place =
+    if touches range sheet place then Some (Some (styled_cell (get sheet.cells place) (output place (shown_style sheet place)))) else None
 
 -- ---- lines
 
@@ -57,32 +57,32 @@ abbrev pub line_style : Option LineAttr → Style
 line_style entry = unwrap_or (own_line_style entry) default_style
 
 -- the style that a line has of its own then: rows do not have the default one, and columns may
-abbrev pub kept_style : Along → Style → Option Style
-kept_style a style = if a.of true false && is_default style then None else Some style
+abbrev pub stored_style : Along → Style → Option Style
+stored_style a style = if a.of true false && is_default style then None else Some style
 
 -- what the change makes of the style of a line; none where styles are taken away
-abbrev pub line_style_made : Along → StyleRange → Made → ℤ → Option LineAttr → Option Style
-line_style_made a range made line entry = if range.clears then None else kept_style a (made (line_place a line) (line_style entry))
+abbrev pub line_style_made : Along → StyleRange → StyleAt → ℤ → Option LineAttr → Option Style
+line_style_made a range output line entry = if range.clears then None else stored_style a (output (line_place a line) (line_style entry))
 
 -- what a line has then; one that is left with nothing has no entry
-abbrev pub attr_styled : Along → StyleRange → Made → ℤ → Option LineAttr → Option LineAttr
-attr_styled a range made line entry = kept_line (Some (with_style (line_style_made a range made line entry) (attr_of entry)))
+abbrev pub attr_styled : Along → StyleRange → StyleAt → ℤ → Option LineAttr → Option LineAttr
+attr_styled a range output line entry = stored_line (Some (with_style (line_style_made a range output line entry) (attr_of entry)))
 
-abbrev pub line_styled : Along → StyleRange → Made → FinMap int_cmp LineAttr → ℤ → Option (Option LineAttr)
-line_styled a range made lines line = if touches_line a range lines line then Some (attr_styled a range made line (get lines line)) else None
+abbrev pub line_styled : Along → StyleRange → StyleAt → FinMap int_cmp LineAttr → ℤ → Option (Option LineAttr)
+line_styled a range output lines line = if touches_line a range lines line then Some (attr_styled a range output line (get lines line)) else None
 
-abbrev pub lines_styled : Along → StyleRange → Made → FinMap int_cmp LineAttr → FinMap int_cmp (Option LineAttr)
-lines_styled a range made lines = planned_lines (line_styled a range made lines) (first_line a range.area) (unsigned_abs (line_count a range.area))
+abbrev pub lines_styled : Along → StyleRange → StyleAt → FinMap int_cmp LineAttr → FinMap int_cmp (Option LineAttr)
+lines_styled a range output lines = planned_lines (line_styled a range output lines) (first_line a range.area) (unsigned_abs (line_count a range.area))
 
 -- ---- the whole change
 
 -- the plan of a change of the styles of a range
-abbrev pub style_plan : StyleRange → Made → Sheet → SheetPlan
-style_plan range made sheet = record {
-  cells = planned_places (place_styled range made sheet) range.area;
+abbrev pub style_plan : StyleRange → StyleAt → Sheet → SheetPlan
+style_plan range output sheet = record {
+  cells = planned_places (place_styled range output sheet) range.area;
   links = empty;
-  columns = lines_styled columns range made sheet.columns;
-  rows = lines_styled rows range made sheet.rows;
+  columns = lines_styled columns range output sheet.columns;
+  rows = lines_styled rows range output sheet.rows;
 }
 
 -- the change takes the style of a place, if the place is touched
@@ -105,5 +105,5 @@ all_accept range accepts sheet =
     && lines_accept columns range accepts sheet.columns && lines_accept rows range accepts sheet.rows
 
 -- the plan, or the refusal where one of the styles is not taken
-unfoldable pub planned_styles : StyleRange → Made → Accepts → EditError → Sheet → Result SheetPlan EditError
-planned_styles range made accepts refusal sheet = if all_accept range accepts sheet then Ok (style_plan range made sheet) else Err refusal
+unfoldable pub planned_styles : StyleRange → StyleAt → Accepts → EditError → Sheet → Result SheetPlan EditError
+planned_styles range output accepts refusal sheet = if all_accept range accepts sheet then Ok (style_plan range output sheet) else Err refusal

@@ -4,7 +4,7 @@ use Rattle.std.specs.Option.{option_and_then}
 use Rattle.base_values.specs.declared.Position.{Position}
 use Rattle.base_styles.specs.declared.Style.{Style}
 use Rattle.sheet_rules.specs.WellFormed.{has_font}
-use Rattle.range_styles.specs.Styled.{Made}
+use Rattle.range_styles.specs.Styled.{StyleAt}
 
 -- the item of a list so many places on, where the list is repeated without end
 abbrev pub repeated : {T : Type 0} → List T → ℕ → Option T
@@ -20,5 +20,5 @@ style_instead style None = style
 style_instead style (Some other) = if has_font other then other else style
 
 -- each place gets the style of the tile that lies over it, where the first one begins at a place
-abbrev pub tiles : List (List Style) → Position → Made
+abbrev pub tiles : List (List Style) → Position → StyleAt
 tiles styles first place style = style_instead style (tile_at styles (unsigned_abs (place.row -ℤ first.row)) (unsigned_abs (place.column -ℤ first.column)))

@@ -72,12 +72,12 @@ impl<'a, C: StyleChange> PlaceEdit<Option<Shared<Cell>>> for Styling<'a, C> {
         self.range.area
     }
 
-    fn made(&self, place: Position) -> Result<Option<Option<Shared<Cell>>>, EditError> {
+    fn entry_at(&self, place: Position) -> Result<Option<Option<Shared<Cell>>>, EditError> {
         if !touches(self.range, self.sheet, self.plain, place) {
             return Ok(None);
         }
         let style = shown_style(self.sheet, self.plain, place);
-        let style = self.change.made(place, style)?;
+        let style = self.change.style_at(place, style)?;
         let entry = self.sheet.cell_map().get(place);
         Ok(Some(Some(styled_cell(self.alloc, entry, style)?)))
     }
@@ -172,7 +172,7 @@ fn plan_stored<C: StyleChange>(
     requires area { IsInside edit.now.range.area }
     requires part { reaches_all edit.now.range.kind edit.now.range.clears ≡ false }
     requires there { there.now ≡ edit.now.sheet.now.cells }
-    ensures made { IfOk result (λ cells. cells ≡
+    ensures output { IfOk result (λ cells. cells ≡
         planned_places (place_styled edit.now.range (C.made_of edit.now.change.now) edit.now.sheet.now) edit.now.range.area) }
     ensures only { IsOkUnless result NoMemory }
 {
@@ -189,7 +189,7 @@ fn plan_range<C: StyleChange>(
 ) -> Result<PlannedCells, EditError>
     requires area { IsInside edit.now.range.area }
     requires there { there.now ≡ edit.now.sheet.now.cells }
-    ensures made { IfOk result (λ cells. cells ≡
+    ensures output { IfOk result (λ cells. cells ≡
         planned_places (place_styled edit.now.range (C.made_of edit.now.change.now) edit.now.sheet.now) edit.now.range.area) }
     ensures only { IsOkUnless result NoMemory }
 {
@@ -211,7 +211,7 @@ pub(crate) fn styled_cells<C: StyleChange>(
     change: &C,
 ) -> Result<PlannedCells, EditError>
     requires { IsInside range.area }
-    ensures made { IfOk result (λ cells. cells ≡
+    ensures output { IfOk result (λ cells. cells ≡
         planned_places (place_styled range (C.made_of change.now) sheet.now) range.area) }
     ensures canonical { IfOk result CanonicalCellPlan }
     ensures only { IsOkUnless result NoMemory }

@@ -26,7 +26,7 @@ pub trait StyleChange {
 
     /// The style after the change. Callers ask only where `accepts` is true; else any style may be
     /// returned. `NoMemory` alone is an error.
-    fn made(&self, place: Position, style: &Shared<Style>) -> Result<Shared<Style>, EditError>
+    fn style_at(&self, place: Position, style: &Shared<Style>) -> Result<Shared<Style>, EditError>
         ensures { Returns result (Ok (made_of self.now place style.now)) };
 
     /// The answer where it may not be made of a style. It takes no memory.
@@ -55,7 +55,11 @@ impl StyleChange for DefaultStyle {
         true
     }
 
-    fn made(&self, _place: Position, _style: &Shared<Style>) -> Result<Shared<Style>, EditError> {
+    fn style_at(
+        &self,
+        _place: Position,
+        _style: &Shared<Style>,
+    ) -> Result<Shared<Style>, EditError> {
         copy_of(self.shared())
     }
 

@@ -100,7 +100,7 @@ impl<'a> PlaceEdit<Option<Shared<Cell>>> for CellClearing<'a> {
         self.area
     }
 
-    fn made(&self, place: Position) -> Result<Option<Option<Shared<Cell>>>, EditError> {
+    fn entry_at(&self, place: Position) -> Result<Option<Option<Shared<Cell>>>, EditError> {
         if !self.area.holds(place) {
             return Ok(None);
         }
@@ -121,7 +121,7 @@ fn cleared_cells(
     area: MergedCell,
 ) -> Result<PlaceMap<Option<Shared<Cell>>>, EditError>
     requires { IsInside area }
-    ensures made { IfOk result (λ cells. cells ≡ planned_places (place_cleared clearing area sheet.now) area) }
+    ensures output { IfOk result (λ cells. cells ≡ planned_places (place_cleared clearing area sheet.now) area) }
     ensures canonical { IfOk result CanonicalCellPlan }
     ensures only { IsOkUnless result NoMemory }
 {
@@ -156,7 +156,7 @@ impl<'a> PlaceEdit<Option<Link>> for LinkClearing<'a> {
         self.area
     }
 
-    fn made(&self, place: Position) -> Result<Option<Option<Link>>, EditError> {
+    fn entry_at(&self, place: Position) -> Result<Option<Option<Link>>, EditError> {
         if !self.area.holds(place) {
             return Ok(None);
         }
@@ -176,7 +176,7 @@ fn cleared_links(
     area: MergedCell,
 ) -> Result<PlaceMap<Option<Link>>, EditError>
     requires { IsInside area }
-    ensures made { IfOk result (λ links. links ≡ planned_places (place_unlinked area sheet.now) area) }
+    ensures output { IfOk result (λ links. links ≡ planned_places (place_unlinked area sheet.now) area) }
     ensures only { IsOkUnless result NoMemory }
 {
     let edit = LinkClearing { sheet, area };

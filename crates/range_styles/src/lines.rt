@@ -7,10 +7,10 @@ ghost use Rattle.base_axis.specs.Rectangles.{IsInside, first_line, line_count};
 ghost use Rattle.base_values.specs.Answers.{Returns};
 ghost use Rattle.base_values.specs.Places.{IsLine};
 ghost use Rattle.base_values.specs.declared.EditError.TheVariants.{NoMemory};
-ghost use Rattle.sheet_grid.specs.Lines.{attr_of, kept_line, with_style};
+ghost use Rattle.sheet_grid.specs.Lines.{attr_of, stored_line, with_style};
 ghost use Rattle.planned_maps.specs.laws.PlanWalks.{kept_put, lines_all, lines_put, put_one};
 ghost use Rattle.range_styles.specs.StyleRanges.{is_among, is_full_columns, is_full_rows, touches_line};
-ghost use Rattle.range_styles.specs.Styled.{attr_styled, kept_style, line_accepts, line_place, line_style_made, line_styled, lines_accept, lines_styled};
+ghost use Rattle.range_styles.specs.Styled.{attr_styled, stored_style, line_accepts, line_place, line_style_made, line_styled, lines_accept, lines_styled};
 
 use crate::change::StyleChange;
 use crate::range::{AreaKind, StyleRange};
@@ -116,8 +116,8 @@ pub(crate) fn accepts_lines<A: Axis, C: StyleChange>(
 }
 
 /// The style that a line may have of its own: a row does not have the default one.
-fn kept_style<A: Axis>(plain: &DefaultStyle, style: Shared<Style>) -> Option<Shared<Style>>
-    ensures { result ≡ kept_style A.along style }
+fn stored_style<A: Axis>(plain: &DefaultStyle, style: Shared<Style>) -> Option<Shared<Style>>
+    ensures { result ≡ stored_style A.along style }
 {
     if A::of(true, false) && is_default(plain, &style) {
         None
@@ -139,8 +139,8 @@ fn style_made<A: Axis, C: StyleChange>(
     if range.clears {
         return Ok(None);
     }
-    let style = change.made(line_place::<A>(line), line_style(entry, plain))?;
-    Ok(kept_style::<A>(plain, style))
+    let style = change.style_at(line_place::<A>(line), line_style(entry, plain))?;
+    Ok(stored_style::<A>(plain, style))
 }
 
 /// What a line has of its own that has this size, this style and this hiding.
@@ -162,8 +162,8 @@ fn attr_with(entry: Option<&LineAttr>, style: Option<Shared<Style>>) -> LineAttr
 }
 
 /// What a sheet stores of a line: nothing where it has nothing of its own.
-fn kept_line(attr: LineAttr) -> Option<LineAttr>
-    ensures { result ≡ kept_line (Some attr) }
+fn stored_line(attr: LineAttr) -> Option<LineAttr>
+    ensures { result ≡ stored_line (Some attr) }
 {
     if attr.is_plain() { None } else { Some(attr) }
 }
@@ -179,7 +179,7 @@ fn styled_attr<A: Axis, C: StyleChange>(
     ensures { Returns result (Ok (attr_styled A.along range (C.made_of change.now) line (option_copied entry.entry))) }
 {
     let style = style_made::<A, C>(plain, range, change, line, entry)?;
-    Ok(kept_line(attr_with(entry, style)))
+    Ok(stored_line(attr_with(entry, style)))
 }
 
 /// Plans what a line gets, if it is touched.
@@ -263,7 +263,7 @@ pub(crate) fn styled_lines<A: Axis, C: StyleChange>(
     change: &C,
 ) -> Result<PlannedLines<A>, EditError>
     requires { IsInside range.area }
-    ensures made { IfOk result (λ planned. planned ≡ lines_styled A.along range (C.made_of change.now) lines.now) }
+    ensures output { IfOk result (λ planned. planned ≡ lines_styled A.along range (C.made_of change.now) lines.now) }
     ensures only { IsOkUnless result NoMemory }
 {
     if !has_lines::<A>(range.kind) {

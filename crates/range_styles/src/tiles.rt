@@ -62,7 +62,7 @@ impl StyleChange for StyleTiles {
         true
     }
 
-    fn made(&self, place: Position, style: &Shared<Style>) -> Result<Shared<Style>, EditError> {
+    fn style_at(&self, place: Position, style: &Shared<Style>) -> Result<Shared<Style>, EditError> {
         match self.tile_at(place) {
             Some(tile) => {
                 if tile.get().font.sz >= 1 {

@@ -30,7 +30,7 @@ pub(crate) trait PlaceEdit<X> {
         ensures { result ≡ area_of self.now };
 
     /// What a place gets, if it gets something. `NoMemory` alone is an error.
-    fn made(&self, place: Position) -> Result<Option<X>, EditError>
+    fn entry_at(&self, place: Position) -> Result<Option<X>, EditError>
         ensures { Returns result (Ok (make self.now place)) };
 
     /// A place outside the rectangle gets nothing.
@@ -54,7 +54,7 @@ fn put_place<X: Drop, E: PlaceEdit<X>>(
     ensures put { OnOk result (planned.new ≡ put_one (E.make edit.now) planned.old place) }
     ensures only { IsOkUnless result NoMemory }
 {
-    if let Some(value) = edit.made(place)? {
+    if let Some(value) = edit.entry_at(place)? {
         let _before = planned.insert(place, value)?;
     }
     Ok(())
@@ -140,7 +140,7 @@ pub(crate) fn plan_places<X: Drop, E: PlaceEdit<X>>(
     edit: &E,
 ) -> Result<PlaceMap<X>, EditError>
     requires { IsInside (E.area_of edit.now) }
-    ensures made { IfOk result (λ planned. planned ≡ planned_places (E.make edit.now) (E.area_of edit.now)) }
+    ensures output { IfOk result (λ planned. planned ≡ planned_places (E.make edit.now) (E.area_of edit.now)) }
     ensures only { IsOkUnless result NoMemory }
 {
     let mut planned = PlaceMap::new(alloc);
@@ -155,7 +155,7 @@ fn plan_entries<X: Drop, V, E: PlaceEdit<X>>(
     there: &PlaceMap<V>,
 ) -> Result<PlaceMap<X>, EditError>
     requires { MakesThere (E.make edit.now) there.now }
-    ensures made { IfOk result (λ planned. planned ≡ planned_places (E.make edit.now) (E.area_of edit.now)) }
+    ensures output { IfOk result (λ planned. planned ≡ planned_places (E.make edit.now) (E.area_of edit.now)) }
     ensures only { IsOkUnless result NoMemory }
 {
     let mut planned = PlaceMap::new(alloc);
@@ -171,7 +171,7 @@ pub(crate) fn plan_there<X: Drop, V, E: PlaceEdit<X>>(
 ) -> Result<PlaceMap<X>, EditError>
     requires area { IsInside (E.area_of edit.now) }
     requires there { MakesThere (E.make edit.now) there.now }
-    ensures made { IfOk result (λ planned. planned ≡ planned_places (E.make edit.now) (E.area_of edit.now)) }
+    ensures output { IfOk result (λ planned. planned ≡ planned_places (E.make edit.now) (E.area_of edit.now)) }
     ensures only { IsOkUnless result NoMemory }
 {
     if has_fewer(edit.area(), there.iter().len()) {

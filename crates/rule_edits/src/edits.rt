@@ -98,7 +98,7 @@ fn formatting_of(
     rule: &CfRule,
     priority: u32,
 ) -> Result<ConditionalFormatting, EditError>
-    ensures made { IfOk result (λ made. made ≡ formatting_of parts.now rule.now priority) }
+    ensures output { IfOk result (λ output. output ≡ formatting_of parts.now rule.now priority) }
     ensures only { IsOkUnless result NoMemory }
 {
     let parts = Items::new(Vec::from_slice(alloc, parts)?);
@@ -116,7 +116,7 @@ fn change_at(
     old: Option<ConditionalFormatting>,
     new: Option<ConditionalFormatting>,
 ) -> Result<Shared<RuleChange>, EditError>
-    ensures made { IfOk result (λ made. made ≡ change_at index old new) }
+    ensures output { IfOk result (λ output. output ≡ change_at index old new) }
     ensures only { IsOkUnless result NoMemory }
 {
     Ok(Shared::new(alloc, RuleChange { index, old, new })?)
@@ -132,8 +132,8 @@ fn rule_replaced(
 ) -> Result<Option<Shared<RuleChange>>, EditError>
     requires old { IsCanonicalFormatting old.now }
     requires new { IsCanonicalFormatting new }
-    ensures made { IfOk result (λ made. made ≡ rule_replaced index old.now new) }
-    ensures numbers { IfOk result (λ made. IfSome made IsCanonicalChange) }
+    ensures output { IfOk result (λ output. output ≡ rule_replaced index old.now new) }
+    ensures numbers { IfOk result (λ output. IfSome output IsCanonicalChange) }
     ensures only { IsOkUnless result NoMemory }
 {
     if *old == new {
@@ -148,12 +148,12 @@ fn with_priority(
     old: &ConditionalFormatting,
     priority: u32,
 ) -> Result<ConditionalFormatting, EditError>
-    ensures made { IfOk result (λ made. made ≡ record old.now { priority = priority }) }
+    ensures output { IfOk result (λ output. output ≡ record old.now { priority = priority }) }
     ensures only { IsOkUnless result NoMemory }
 {
-    let mut made = copy_of(old)?;
-    made.priority = priority;
-    Ok(made)
+    let mut output = copy_of(old)?;
+    output.priority = priority;
+    Ok(output)
 }
 
 /// The change of a rule that gets another priority. `NoMemory` alone is an error.
@@ -164,7 +164,7 @@ fn priority_change(
     priority: u32,
 ) -> Result<Shared<RuleChange>, EditError>
     requires { IsCanonicalFormatting old.now }
-    ensures made { IfOk result (λ made. made ≡ priority_change index old.now priority) }
+    ensures output { IfOk result (λ output. output ≡ priority_change index old.now priority) }
     ensures numbers { IfOk result IsCanonicalChange }
     ensures only { IsOkUnless result NoMemory }
 {
@@ -180,7 +180,7 @@ fn swapped_in_order(
     second: u64,
 ) -> Result<Option<(Shared<RuleChange>, Shared<RuleChange>)>, EditError>
     ensures changes { Returns result (swapped_in_order first second rules.now) }
-    ensures numbers { IfOk result (λ made. IfSome made (λ changes. IsCanonicalChange changes.0 × IsCanonicalChange changes.1)) }
+    ensures numbers { IfOk result (λ output. IfSome output (λ changes. IsCanonicalChange changes.0 × IsCanonicalChange changes.1)) }
 {
     let old = rule_at(rules, first)?;
     let other = rule_at(rules, second)?;
@@ -232,7 +232,7 @@ pub fn update_rule(
 ) -> Result<Option<Shared<RuleChange>>, EditError>
     requires { has_canonical_numbers rule.now ≡ true }
     ensures change { Returns result (rule_updated index parts.now rule.now rules.now) }
-    ensures numbers { IfOk result (λ made. IfSome made IsCanonicalChange) }
+    ensures numbers { IfOk result (λ output. IfSome output IsCanonicalChange) }
 {
     let old = rule_at(rules, index)?;
     check_rule(parts, rule)?;
@@ -268,7 +268,7 @@ pub fn swap_rules(
     index_b: u64,
 ) -> Result<Option<(Shared<RuleChange>, Shared<RuleChange>)>, EditError>
     ensures changes { Returns result (rules_swapped index_a index_b rules.now) }
-    ensures numbers { IfOk result (λ made. IfSome made (λ changes. IsCanonicalChange changes.0 × IsCanonicalChange changes.1)) }
+    ensures numbers { IfOk result (λ output. IfSome output (λ changes. IsCanonicalChange changes.0 × IsCanonicalChange changes.1)) }
 {
     let first = index_a.min(index_b);
     let second = index_a.max(index_b);

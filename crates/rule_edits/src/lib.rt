@@ -15,4 +15,4 @@ pub use change::RuleChange;
 pub use edits::{add_rule, remove_rule, swap_rules, update_rule};
 pub use goes::{goes_back, goes_forward};
 pub use laws::{changed_rules_come_back, edited_rules_stand};
-pub use list::{rules_made, rules_unmade};
+pub use list::{rules_back, rules_forward};

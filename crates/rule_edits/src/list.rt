@@ -60,7 +60,7 @@ fn with_new(
     index: u64,
     new: &Option<ConditionalFormatting>,
 ) -> Result<Vec<ConditionalFormatting>, EditError>
-    ensures rules { IfOk result (λ made. made.items ≡ rule_come index new.now rules.items) }
+    ensures rules { IfOk result (λ output. output.items ≡ rule_come index new.now rules.items) }
     ensures only { IsOkUnless result NoMemory }
 {
     if let Some(formatting) = new {
@@ -78,13 +78,13 @@ fn changed_rules(
     new: &Option<ConditionalFormatting>,
 ) -> Result<Items<ConditionalFormatting>, EditError>
     requires { has_place (change_at index old.now new.now) (length rules.now) ≡ true }
-    ensures rules { IfOk result (λ made. made ≡ rules_changed (change_at index old.now new.now) rules.now) }
+    ensures rules { IfOk result (λ output. output ≡ rules_changed (change_at index old.now new.now) rules.now) }
     ensures only { IsOkUnless result NoMemory }
 {
     let before = copied(alloc, rules)?.into_vec();
     let left = without_old(before, index, old);
-    let made = with_new(left, index, new)?;
-    Ok(Items::new(made))
+    let output = with_new(left, index, new)?;
+    Ok(Items::new(output))
 }
 
 /// The list of the rules after a change at an index.
@@ -97,23 +97,23 @@ fn changed_list(
 ) -> Result<RuleList, EditError>
     requires place { has_place (change_at index old.now new.now) (length rules.now) ≡ true }
     requires numbers { IfSome new.now IsCanonicalFormatting }
-    ensures rules { IfOk result (λ made. made ≡ rules_changed (change_at index old.now new.now) rules.now) }
+    ensures rules { IfOk result (λ output. output ≡ rules_changed (change_at index old.now new.now) rules.now) }
     ensures only { IsOkUnless result NoMemory }
 {
-    let made = changed_rules(alloc, rules.as_slice(), index, old, new)?;
-    Ok(RuleList::new(made))
+    let output = changed_rules(alloc, rules.as_slice(), index, old, new)?;
+    Ok(RuleList::new(output))
 }
 
 /// The rules after a change: the old rule goes from the index, and the new one comes there. `NoMemory`
 /// alone is an error.
-pub fn rules_made(
+pub fn rules_forward(
     alloc: Global,
     rules: &RuleList,
     change: &RuleChange,
 ) -> Result<RuleList, EditError>
     requires place { has_place change.now (length rules.now) ≡ true }
     requires numbers { IsCanonicalChange change.now }
-    ensures rules { IfOk result (λ made. made ≡ rules_changed change.now rules.now) }
+    ensures rules { IfOk result (λ output. output ≡ rules_changed change.now rules.now) }
     ensures only { IsOkUnless result NoMemory }
 {
     changed_list(alloc, rules, change.index, &change.old, &change.new)
@@ -121,14 +121,14 @@ pub fn rules_made(
 
 /// The rules before a change: the new rule goes from the index, and the old one comes there. `NoMemory`
 /// alone is an error.
-pub fn rules_unmade(
+pub fn rules_back(
     alloc: Global,
     rules: &RuleList,
     change: &RuleChange,
 ) -> Result<RuleList, EditError>
     requires place { has_place (opposite change.now) (length rules.now) ≡ true }
     requires numbers { IsCanonicalChange change.now }
-    ensures rules { IfOk result (λ made. made ≡ rules_changed (opposite change.now) rules.now) }
+    ensures rules { IfOk result (λ output. output ≡ rules_changed (opposite change.now) rules.now) }
     ensures only { IsOkUnless result NoMemory }
 {
     changed_list(alloc, rules, change.index, &change.new, &change.old)

@@ -56,7 +56,7 @@ fn with_rules(
     own: &EditedRules,
     rules: Items<ConditionalFormatting>,
 ) -> Result<EditedRules, EditError>
-    ensures rules { IfOk result (λ made. made ≡ record own.now { rules = rules }) }
+    ensures rules { IfOk result (λ output. output ≡ record own.now { rules = rules }) }
     ensures only { IsOkUnless result NoMemory }
 {
     let edited = copy_of(&own.edited)?;

@@ -41,7 +41,7 @@ fn route_with<'a, A: Axis, M: LineMap<A>>(
     part: MergedCell,
 ) -> Result<Route<'a, A, M>, EditError>
     requires { IsInside part }
-    ensures route { IfOk result (λ made. way made ≡ at_part (way route.now) part) }
+    ensures route { IfOk result (λ output. way output ≡ at_part (way route.now) part) }
     ensures only { IsOkUnless result NoMemory }
 {
     // For the proof: the route is a way.
@@ -57,7 +57,7 @@ fn route_of_trees<'a, A: Axis, M: LineMap<A>>(
     parts: &[MergedCell],
 ) -> Result<Route<'a, A, M>, EditError>
     requires { All IsInside parts.now }
-    ensures route { IfOk result (λ made. way made ≡ way_of_trees (way route.now) parts.now) }
+    ensures route { IfOk result (λ output. way output ≡ way_of_trees (way route.now) parts.now) }
     ensures only { IsOkUnless result NoMemory }
 {
     match parts {
@@ -73,7 +73,7 @@ fn moved_formatting<A: Axis, M: LineMap<A>>(
     formatting: &ConditionalFormatting,
 ) -> Result<ConditionalFormatting, EditError>
     requires { StandsInside formatting.now }
-    ensures value { IfOk result (λ made. made ≡ formatting_moved (way route.now) formatting.now) }
+    ensures value { IfOk result (λ output. output ≡ formatting_moved (way route.now) formatting.now) }
     ensures only { IsOkUnless result NoMemory }
 {
     let there = route_of_trees(alloc, route, formatting.parts.as_slice())?;
@@ -94,7 +94,7 @@ pub(crate) fn carried_formatting<A: Axis, M: LineMap<A>>(
     formatting: &ConditionalFormatting,
 ) -> Result<ConditionalFormatting, EditError>
     requires { StandsInside formatting.now }
-    ensures value { IfOk result (λ made. made ≡ formatting_carried (way route.now) formatting.now) }
+    ensures value { IfOk result (λ output. output ≡ formatting_carried (way route.now) formatting.now) }
     ensures only { IsOkUnless result NoMemory }
 {
     if route.is_edited {

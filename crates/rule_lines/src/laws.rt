@@ -19,5 +19,6 @@ pub fn rules_follow<A: Axis, M: LineMap<A>>(route: &Route<'_, A, M>)
     ensures others { route.now.is_edited ≡ false → (formatting : ConditionalFormatting) → formatting_carried (way route.now) formatting ≡ formatting }
     ensures regained { (rules : List ConditionalFormatting) → rules_restored (way route.now) (rules_kept (way route.now) rules) (rules_carried (way route.now) rules) ≡ rules }
 {
+    // A law does no work.
     let _ = route;
 }

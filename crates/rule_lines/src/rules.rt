@@ -26,14 +26,14 @@ pub(crate) fn carried_items<A: Axis, M: LineMap<A>>(
     rules: &[ConditionalFormatting],
 ) -> Result<Items<ConditionalFormatting>, EditError>
     requires { RulesLie rules.now }
-    ensures rules { IfOk result (λ made. made ≡ rules_carried (way route.now) rules.now) }
+    ensures rules { IfOk result (λ output. output ≡ rules_carried (way route.now) rules.now) }
     ensures only { IsOkUnless result NoMemory }
 {
-    let mut made = Items::empty(alloc);
+    let mut output = Items::empty(alloc);
     for formatting in rules {
-        made.push(carried_formatting(alloc, route, formatting)?)?;
+        output.push(carried_formatting(alloc, route, formatting)?)?;
     }
-    Ok(made)
+    Ok(output)
 }
 
 /// Keeps a rule under its place in the list, where the way back does not give it.
@@ -78,7 +78,7 @@ fn settled_formatting<A: Axis, M: LineMap<A>>(
     kept: Option<&ConditionalFormatting>,
 ) -> Result<ConditionalFormatting, EditError>
     requires { StandsInside formatting.now }
-    ensures value { IfOk result (λ made. made ≡ settled (formatting_carried (back (way route.now))) (λ _ own. own) (option_copied kept.entry) formatting.now) }
+    ensures value { IfOk result (λ output. output ≡ settled (formatting_carried (back (way route.now))) (λ _ own. own) (option_copied kept.entry) formatting.now) }
     ensures only { IsOkUnless result NoMemory }
 {
     match kept {
@@ -96,7 +96,7 @@ fn restored_formatting<A: Axis, M: LineMap<A>>(
     kept: &IndexMap<ConditionalFormatting>,
 ) -> Result<ConditionalFormatting, EditError>
     requires { StandsInside formatting.now }
-    ensures value { IfOk result (λ made. made ≡ restored_at (formatting_carried (back (way route.now))) (λ _ own. own) (get kept.now) (place, formatting.now)) }
+    ensures value { IfOk result (λ output. output ≡ restored_at (formatting_carried (back (way route.now))) (λ _ own. own) (get kept.now) (place, formatting.now)) }
     ensures only { IsOkUnless result NoMemory }
 {
     settled_formatting(alloc, route, formatting, kept.get(place as u64))
@@ -109,14 +109,14 @@ pub(crate) fn restored_items<A: Axis, M: LineMap<A>>(
     kept: &IndexMap<ConditionalFormatting>,
 ) -> Result<Items<ConditionalFormatting>, EditError>
     requires { RulesLie rules.now }
-    ensures rules { IfOk result (λ made. made ≡ rules_restored (way route.now) kept.now rules.now) }
+    ensures rules { IfOk result (λ output. output ≡ rules_restored (way route.now) kept.now rules.now) }
     ensures only { IsOkUnless result NoMemory }
 {
-    let mut made = Items::empty(alloc);
+    let mut output = Items::empty(alloc);
     for (place, formatting) in rules.iter().enumerate() {
-        made.push(restored_formatting(alloc, route, place, formatting, kept)?)?;
+        output.push(restored_formatting(alloc, route, place, formatting, kept)?)?;
     }
-    Ok(made)
+    Ok(output)
 }
 
 /// The rules of a sheet, carried along a route: each part of each rule to where its corners go, and
@@ -128,14 +128,14 @@ pub fn carried_rules<A: Axis, M: LineMap<A>>(
     rules: &RuleList,
 ) -> Result<RuleList, EditError>
     requires { RulesLie rules.now }
-    ensures rules { IfOk result (λ made. made ≡ rules_carried (way route.now) rules.now) }
+    ensures rules { IfOk result (λ output. output ≡ rules_carried (way route.now) rules.now) }
     ensures inside { IfOk result RulesLie }
     ensures only { IsOkUnless result NoMemory }
 {
     // For the proof: the route is a way.
     route.is_way();
-    let made = carried_items(alloc, route, rules.as_slice())?;
-    Ok(RuleList::new(made))
+    let output = carried_items(alloc, route, rules.as_slice())?;
+    Ok(RuleList::new(output))
 }
 
 /// The rules of a sheet that the way back does not give, each whole and under its place in the list.
@@ -163,9 +163,9 @@ pub fn restored_rules<A: Axis, M: LineMap<A>>(
 ) -> Result<RuleList, EditError>
     requires lie { RulesLie rules.now }
     requires numbers { AreCanonicalKept kept.now }
-    ensures rules { IfOk result (λ made. made ≡ rules_restored (way route.now) kept.now rules.now) }
+    ensures rules { IfOk result (λ output. output ≡ rules_restored (way route.now) kept.now rules.now) }
     ensures only { IsOkUnless result NoMemory }
 {
-    let made = restored_items(alloc, route, rules.as_slice(), kept)?;
-    Ok(RuleList::new(made))
+    let output = restored_items(alloc, route, rules.as_slice(), kept)?;
+    Ok(RuleList::new(output))
 }

@@ -94,8 +94,8 @@ named_reads column row letters digits n =
     let first : read_column letters ≡ Some column = ap (λ t. cond t (Some (letters_number letters)) None) n.column_so.few ∙ ap Some n.column_so.number in
     let second : read_row digits ≡ Some row = ap (λ t. cond t (Some (value_of digits)) None) (both_and _ _ n.row_few n.row_so.all) ∙ ap Some n.row_so.value in
     let whole : List ℕ → List ℕ → Option Reference = λ l d. option_and_then (λ c. option_map (λ r. record { row = pos r; column = pos c }) (read_row d)) (read_column l) in
-    let made : Option ℕ → Option ℕ → Option Reference = λ c r. option_and_then (λ c. option_map (λ r. record { row = pos r; column = pos c }) r) c in
-    (λ i. whole (front i) (back i)) ∙ (λ i. made (first i) (second i))
+    let output : Option ℕ → Option ℕ → Option Reference = λ c r. option_and_then (λ c. option_map (λ r. record { row = pos r; column = pos c }) r) c in
+    (λ i. whole (front i) (back i)) ∙ (λ i. output (first i) (second i))
 
 pub read_again : IsReadAgain
 read_again place h = go place.row place.column h.0 h.1

@@ -74,7 +74,7 @@ module _ {A B : Type 0} (f : A → B) (error : EditError) where
 
 -- ---- the step
 
--- a text that is not read for want of a place
+-- a text that is not read where the place is missing
 pub unread_turns : (named : NamedArea) (text : List ℕ) (doc : Document) (s : State) (error : EditError) → StandsFor doc s
     → (error ≢ NoMemory → rule_formula named.sheet named.area text doc.book doc.language ≡ Err error) → Turns {T = Unit {0}} (Err error) doc (rule_typed named text s)
 unread_turns named text doc s error stands unread = record {
@@ -95,7 +95,7 @@ short_turns error doc expected short = record { done = tt; refused = λ other. a
 pub rule_is : (named : NamedArea) (text : List ℕ) (doc : Document) (s : State) (tree : Node) (rule : CfRule) → StandsFor doc s
     → rule_formula named.sheet named.area text doc.book doc.language ≡ Ok tree → rule ≡ plain_rule tree
     → rule ≡ plain_rule (formula_typed s.present s.language named.area.row named.area.column text)
-rule_is named text doc s tree rule stands read made =
+rule_is named text doc s tree rule stands read value =
     let there : rule_formula named.sheet named.area text s.present s.language ≡ Ok tree =
     subst (λ (d : Document). rule_formula named.sheet named.area text d.book d.language ≡ Ok tree) stands.document read in
-    made ∙ ap plain_rule (read_there named.sheet named.area s.present text s.language tree there)
+    value ∙ ap plain_rule (read_there named.sheet named.area s.present text s.language tree there)

@@ -122,7 +122,7 @@ fn fill_source(named: NamedFill) -> Area
 /// A rule that shows the default style where a formula holds, and stops no other rule.
 fn plain_rule(alloc: Global, formula: Shared<Node>) -> Result<CfRule, EditError>
     requires { tree.has_canonical_numbers formula ≡ true }
-    ensures made { IfOk result (λ rule. rule ≡ plain_rule formula) }
+    ensures value { IfOk result (λ rule. rule ≡ plain_rule formula) }
     ensures canonical { IfOk result (λ rule. has_canonical_numbers rule ≡ true) }
     ensures only { IsOkUnless result NoMemory }
 {

@@ -20,5 +20,6 @@ pub fn edit_keeps_rules<A: Axis>(workbook: &Workbook, sheet_id: u32, edit: &Line
     ensures rules { IsWellFormed (book_followed A.along edit.now.kind sheet_id workbook.now) }
     ensures back { there_and_back A.along edit.now.kind sheet_id workbook.now ≡ workbook.now }
 {
+    // A law does no work: this cites the law below it.
     edit_and_back(workbook, sheet_id, edit);
 }

@@ -29,9 +29,9 @@ late {A} expected plan is error v short = record {
 }
 
 -- a plan that is expected, or no memory
-pub planned_all : (expected : Result FillPlan EditError) (plan : FillPlan) → expected ≡ Ok plan → (r : Result FillPlan EditError) → IfOk r (λ made. made ≡ plan)
+pub planned_all : (expected : Result FillPlan EditError) (plan : FillPlan) → expected ≡ Ok plan → (r : Result FillPlan EditError) → IfOk r (λ output. output ≡ plan)
     → IsOkUnless r NoMemory → Returns r expected
-planned_all expected plan is (Ok made) same only = record { done = is ∙ ap Ok (sym same); refused = tt; memory = tt }
+planned_all expected plan is (Ok output) same only = record { done = is ∙ ap Ok (sym same); refused = tt; memory = tt }
 planned_all expected plan is (Err error) same only = record { done = tt; refused = λ other. absurd (other only); memory = λ s. subst IsOk (sym is) refl }
 
 module _ (a : Along) (area : Area) (to : ℤ) (language : Language) (book : Book) where

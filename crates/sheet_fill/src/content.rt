@@ -59,8 +59,8 @@ pub fn entry_text(
 
 fn rebased(alloc: Global, tree: &Node, place: Position) -> Result<Shared<Node>, EditError>
     requires { IsTrue (has_canonical_numbers tree.now) }
-    ensures tree { IfOk result (λ made. made ≡ rebased place tree.now) }
-    ensures canonical { IfOk result (λ made. IsTrue (has_canonical_numbers made)) }
+    ensures tree { IfOk result (λ output. output ≡ rebased place tree.now) }
+    ensures canonical { IfOk result (λ output. IsTrue (has_canonical_numbers output)) }
     ensures only { IsOkUnless result NoMemory }
 {
     Ok(Shared::new(alloc, rebase_node(alloc, tree, place)?)?)
@@ -70,7 +70,7 @@ fn rebased(alloc: Global, tree: &Node, place: Position) -> Result<Shared<Node>, 
 /// becomes a plain formula. `NoMemory` alone is an error.
 fn filled(alloc: Global, content: &Content, place: Position) -> Result<Content, EditError>
     requires { IsCanonicalContent content.now }
-    ensures content { IfOk result (λ made. made ≡ filled place content.now) }
+    ensures content { IfOk result (λ output. output ≡ filled place content.now) }
     ensures canonical { IfOk result IsCanonicalContent }
     ensures only { IsOkUnless result NoMemory }
 {
@@ -90,7 +90,7 @@ pub fn filled_entry(
     place: Position,
 ) -> Result<Content, EditError>
     requires { IfSome (option_copied entry) IsCanonicalCell }
-    ensures content { IfOk result (λ made. made ≡ filled_entry place (option_copied entry.entry)) }
+    ensures content { IfOk result (λ output. output ≡ filled_entry place (option_copied entry.entry)) }
     ensures canonical { IfOk result IsCanonicalContent }
     ensures only { IsOkUnless result NoMemory }
 {
@@ -111,7 +111,7 @@ pub fn continued(
 ) -> Result<Content, EditError>
     requires number { number ≤ 1048575 }
     requires place { IsPlace place }
-    ensures content { IfOk result (λ made. made ≡ fitting place (input_of (profile_at locale language place) (next_text progression.now (pos number)))) }
+    ensures content { IfOk result (λ output. output ≡ fitting place (input_of (profile_at locale language place) (next_text progression.now (pos number)))) }
     ensures canonical { IfOk result IsCanonicalContent }
     ensures only { IsOkUnless result NoMemory }
 {

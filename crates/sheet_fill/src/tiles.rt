@@ -210,7 +210,7 @@ pub fn merges_filled<A: Axis>(
     merges: &[MergedCell],
 ) -> Result<Items<MergedCell>, EditError>
     requires { IsRange range }
-    ensures made { IfOk result (λ filled. filled ≡ merges_filled A.along range merges.now) }
+    ensures output { IfOk result (λ filled. filled ≡ merges_filled A.along range merges.now) }
     ensures only { IsOkUnless result NoMemory }
 {
     let repeated = repeated(alloc, range, merges)?;

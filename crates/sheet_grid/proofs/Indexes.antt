@@ -27,32 +27,32 @@ joined true b g h = h
 joined false b g h = absurd g
 
 module _ {K X Y : Type 0} (R : K → K → Ordering) (make : K → X → Option Y) where
-  abbrev made : K × X → Option (K × Y)
-  made = entry_made Some (λ _ q x. make q x)
+  abbrev output : K × X → Option (K × Y)
+  output = entry_made Some (λ _ q x. make q x)
 
   -- what makes nothing leaves the others in order
-  below_made : (p : K) (es : List (K × X)) → T (below_all R p es) → T (below_all R p (filter_map made es))
+  below_made : (p : K) (es : List (K × X)) → T (below_all R p es) → T (below_all R p (filter_map output es))
   below_made p [] h = tt
   below_made p (e ∷ es) h = more (make e.0 e.1) (below_made p es (right (is_lt (R p e.0)) (below_all R p es) h))
     where
-      more : (y : Option Y) → T (below_all R p (filter_map made es)) → T (below_all R p (cons_option (if_there y (λ y. Some (e.0, y))) (filter_map made es)))
+      more : (y : Option Y) → T (below_all R p (filter_map output es)) → T (below_all R p (cons_option (if_there y (λ y. Some (e.0, y))) (filter_map output es)))
       more None rest = rest
       more (Some y) rest = joined (is_lt (R p e.0)) _ (left (is_lt (R p e.0)) (below_all R p es) h) rest
 
-  sorted_made : (es : List (K × X)) → T (is_sorted R es) → T (is_sorted R (filter_map made es))
+  sorted_made : (es : List (K × X)) → T (is_sorted R es) → T (is_sorted R (filter_map output es))
   sorted_made [] h = tt
   sorted_made (e ∷ es) h = more (make e.0 e.1) (sorted_made es (right (below_all R e.0 es) (is_sorted R es) h))
     where
-      more : (y : Option Y) → T (is_sorted R (filter_map made es)) → T (is_sorted R (cons_option (if_there y (λ y. Some (e.0, y))) (filter_map made es)))
+      more : (y : Option Y) → T (is_sorted R (filter_map output es)) → T (is_sorted R (cons_option (if_there y (λ y. Some (e.0, y))) (filter_map output es)))
       more None rest = rest
-      more (Some y) rest = joined (below_all R e.0 (filter_map made es)) _ (below_made e.0 es (left (below_all R e.0 es) (is_sorted R es) h)) rest
+      more (Some y) rest = joined (below_all R e.0 (filter_map output es)) _ (below_made e.0 es (left (below_all R e.0 es) (is_sorted R es) h)) rest
 
-  values_made : (es : List (K × X)) → map (λ e. e.1) (filter_map made es) ≡ filter_map (λ e. make e.0 e.1) es
+  values_made : (es : List (K × X)) → map (λ e. e.1) (filter_map output es) ≡ filter_map (λ e. make e.0 e.1) es
   values_made [] = refl
   values_made (e ∷ es) = more (make e.0 e.1) (values_made es)
     where
-      more : (y : Option Y) → map (λ f. f.1) (filter_map made es) ≡ filter_map (λ f. make f.0 f.1) es
-          → map (λ f. f.1) (cons_option (if_there y (λ y. Some (e.0, y))) (filter_map made es)) ≡ cons_option y (filter_map (λ f. make f.0 f.1) es)
+      more : (y : Option Y) → map (λ f. f.1) (filter_map output es) ≡ filter_map (λ f. make f.0 f.1) es
+          → map (λ f. f.1) (cons_option (if_there y (λ y. Some (e.0, y))) (filter_map output es)) ≡ cons_option y (filter_map (λ f. make f.0 f.1) es)
       more None rest = rest
       more (Some y) rest = ap (λ ys. y ∷ ys) rest
 
@@ -82,4 +82,4 @@ module _ {K X Y : Type 0} (R : K → K → Ordering) (make : K → X → Option 
     -- the values, in the order of their keys
     pub index-values : (m : FinMap R X) → map (λ e. e.1) (entries (gathered Some (λ _ q x. make q x) m)) ≡ filter_map (λ e. make e.0 e.1) (entries m)
     unfolding gathered
-    index-values m = ap (map (λ e. e.1)) (from_made (filter_map made (entries m)) (sorted_made (entries m) (entries_sorted m))) ∙ values_made (entries m)
+    index-values m = ap (map (λ e. e.1)) (from_made (filter_map output (entries m)) (sorted_made (entries m) (entries_sorted m))) ∙ values_made (entries m)

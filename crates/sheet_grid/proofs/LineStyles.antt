@@ -13,7 +13,7 @@ use Rattle.base_styles.specs.declared.Style.{Style}
 use Rattle.base_values.specs.laws.KeyMap.{get-with_entry}
 use Rattle.base_values.specs.Places.{is_line}
 use Rattle.sheet_grid.specs.declared.line_attr.LineAttr.{LineAttr}
-use Rattle.sheet_grid.specs.Lines.{AllStyled, attr_of, kept_line, with_change, with_style}
+use Rattle.sheet_grid.specs.Lines.{AllStyled, attr_of, stored_line, with_change, with_style}
 
 -- no line is before the first
 none_before : (line : ℤ) → is_line (pos 0) line ≡ false
@@ -30,7 +30,7 @@ next_outside : (n : ℕ) → is_line (pos n) (pos (suc n)) ≡ false
 next_outside n = grind (arith, ints, nat_tests)
 
 -- a line with a style is never plain
-kept_styled : (style : Style) (attr : LineAttr) → kept_line (Some (with_style (Some style) attr)) ≡ Some (with_style (Some style) attr)
+kept_styled : (style : Style) (attr : LineAttr) → stored_line (Some (with_style (Some style) attr)) ≡ Some (with_style (Some style) attr)
 kept_styled style attr = go (is_none attr.size)
   where
     go : (b : Bool) → cond (b && false) None (Some (with_style (Some style) attr)) ≡ Some (with_style (Some style) attr)
@@ -45,7 +45,7 @@ styled_before style lines line = sym (ap (λ b. cond b (Some (with_style (Some s
 pub styled_on : (style : Style) (old new : FinMap int_cmp LineAttr) (n : ℕ) → AllStyled (pos n) style old new
     → AllStyled (pos (suc n)) style old (with_change new (pos (suc n)) (with_style (Some style)))
 styled_on style old new n so_far line =
-    get-with_entry int_cmp_total new (pos (suc n)) (kept_line (Some (with_style (Some style) (attr_of (get new (pos (suc n))))))) line
+    get-with_entry int_cmp_total new (pos (suc n)) (stored_line (Some (with_style (Some style) (attr_of (get new (pos (suc n))))))) line
     ∙ go (eq_by_cmp int_cmp line (pos (suc n))) refl
   where
     styled : ℤ → Option LineAttr
@@ -54,14 +54,14 @@ styled_on style old new n so_far line =
     own : get new (pos (suc n)) ≡ get old (pos (suc n))
     own = so_far (pos (suc n)) ∙ ap (λ b. cond b (styled (pos (suc n))) (get old (pos (suc n)))) (next_outside n)
 
-    entry : kept_line (Some (with_style (Some style) (attr_of (get new (pos (suc n)))))) ≡ styled (pos (suc n))
+    entry : stored_line (Some (with_style (Some style) (attr_of (get new (pos (suc n)))))) ≡ styled (pos (suc n))
     entry = kept_styled style (attr_of (get new (pos (suc n)))) ∙ ap (λ (o : Option LineAttr). Some (with_style (Some style) (attr_of o))) own
 
     at_last : (at : ℤ) → at ≡ pos (suc n) → styled (pos (suc n)) ≡ cond (is_line (pos (suc n)) at) (styled at) (get old at)
     at_last at is = subst (λ (z : ℤ). styled (pos (suc n)) ≡ cond (is_line (pos (suc n)) z) (styled z) (get old z)) (sym is) (sym (ap (λ b. cond b (styled (pos (suc n))) (get old (pos (suc n)))) (last_inside n)))
 
     go : (b : Bool) → eq_by_cmp int_cmp line (pos (suc n)) ≡ b
-        → cond b (kept_line (Some (with_style (Some style) (attr_of (get new (pos (suc n))))))) (get new line) ≡ cond (is_line (pos (suc n)) line) (styled line) (get old line)
+        → cond b (stored_line (Some (with_style (Some style) (attr_of (get new (pos (suc n))))))) (get new line) ≡ cond (is_line (pos (suc n)) line) (styled line) (get old line)
     go true e = entry ∙ at_last line (tells_apart exact_signed line (pos (suc n)) e)
     go false e =
         so_far line

@@ -32,9 +32,9 @@ abbrev pub is_plain : LineAttr → Bool
 is_plain attr = is_none attr.size && (is_none attr.style && not attr.hidden)
 
 -- what a sheet keeps of a line's entry: a plain one counts as none
-abbrev pub kept_line : Option LineAttr → Option LineAttr
-kept_line None = None
-kept_line (Some attr) = if is_plain attr then None else Some attr
+abbrev pub stored_line : Option LineAttr → Option LineAttr
+stored_line None = None
+stored_line (Some attr) = if is_plain attr then None else Some attr
 
 -- what a line has that may have no entry
 abbrev pub attr_of : Option LineAttr → LineAttr
@@ -108,7 +108,7 @@ row_style_set style = style_set (own_row_style style)
 
 -- the lines of which one has what a change makes of its own; one left plain has no entry
 abbrev pub with_change : FinMap int_cmp LineAttr → ℤ → (LineAttr → LineAttr) → FinMap int_cmp LineAttr
-with_change lines line change = with_entry lines line (kept_line (Some (change (attr_of (get lines line)))))
+with_change lines line change = with_entry lines line (stored_line (Some (change (attr_of (get lines line)))))
 
 -- a line that is outside is refused, and then the change may be
 abbrev pub line_changed : ℤ → EditError → FinMap int_cmp LineAttr → ℤ → Result (LineAttr → LineAttr) EditError → Result (FinMap int_cmp LineAttr) EditError

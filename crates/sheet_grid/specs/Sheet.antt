@@ -25,7 +25,7 @@ use Rattle.sheet_grid.specs.declared.link.Link.{Link}
 use Rattle.sheet_grid.specs.declared.line_attr.LineAttr.{LineAttr}
 use Rattle.sheet_grid.specs.declared.row_attr.RowAttr.{RowAttr}
 use Rattle.sheet_grid.specs.declared.column_attr.ColumnAttr.{ColumnAttr}
-use Rattle.sheet_grid.specs.Lines.{line_of_row, row_of_line, line_of_column, column_of_line, kept_line, own_line_style, line_changed}
+use Rattle.sheet_grid.specs.Lines.{line_of_row, row_of_line, line_of_column, column_of_line, stored_line, own_line_style, line_changed}
 
 pub record Sheet : Type 0 where
   pub id : ℕ
@@ -132,7 +132,7 @@ row_at = of_row (option_map row_of_line)
 
 -- a row has this of its own, and a plain entry counts as none
 abbrev pub row_put : Sheet → ℤ → Option RowAttr → Result Sheet EditError
-row_put sheet row entry = map_ok (λ line. record sheet { rows = with_entry sheet.rows line (kept_line (option_map line_of_row entry)) }) (line_of (pos 1048576) row InvalidRow)
+row_put sheet row entry = map_ok (λ line. record sheet { rows = with_entry sheet.rows line (stored_line (option_map line_of_row entry)) }) (line_of (pos 1048576) row InvalidRow)
 
 -- what a column has of its own
 abbrev pub column_at : Sheet → ℤ → Result (Option ColumnAttr) EditError
@@ -140,7 +140,7 @@ column_at = of_column (option_map column_of_line)
 
 -- a column has this of its own, and a plain entry counts as none
 abbrev pub column_put : Sheet → ℤ → Option ColumnAttr → Result Sheet EditError
-column_put sheet column entry = map_ok (λ line. record sheet { columns = with_entry sheet.columns line (kept_line (option_map line_of_column entry)) }) (line_of (pos 16384) column InvalidColumn)
+column_put sheet column entry = map_ok (λ line. record sheet { columns = with_entry sheet.columns line (stored_line (option_map line_of_column entry)) }) (line_of (pos 16384) column InvalidColumn)
 
 -- what a row has of its own is changed
 abbrev pub row_changed : Sheet → ℤ → Result (LineAttr → LineAttr) EditError → Result Sheet EditError

@@ -1,5 +1,5 @@
 ghost use Rattle.std.specs.Prelude.{◌≡◌};
-ghost use Rattle.sheet_grid.specs.Lines.{line_of_row, row_of_line, line_of_column, column_of_line, is_plain, kept_line};
+ghost use Rattle.sheet_grid.specs.Lines.{line_of_row, row_of_line, line_of_column, column_of_line, is_plain, stored_line};
 
 use crate::column_attr::ColumnAttr;
 use crate::row_attr::RowAttr;
@@ -79,7 +79,7 @@ impl LineAttr {
 
     /// What a sheet keeps of an entry of a line: a plain one counts as none.
     pub(crate) fn kept(entry: Option<LineAttr>) -> Option<LineAttr>
-        ensures { result ≡ kept_line entry }
+        ensures { result ≡ stored_line entry }
     {
         let Some(attr) = entry else {
             return None;

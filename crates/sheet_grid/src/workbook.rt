@@ -71,7 +71,7 @@ impl Workbook {
         locale: Locale,
         zone: Zone,
     ) -> Result<Workbook, EditError>
-        ensures made { IfOk result (λ book. book ≡ new_book name.now locale zone) }
+        ensures output { IfOk result (λ book. book ≡ new_book name.now locale zone) }
         ensures only { IsOkUnless result NoMemory }
     {
         let mut worksheets = Items::empty(alloc);

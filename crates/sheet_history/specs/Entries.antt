@@ -133,9 +133,9 @@ cell_stands_at place None = true
 cell_stands_at place (Some cell) = fits_at place cell.content && lies_inside (array_at place cell.content)
 
 -- what a line has of its own is something, if it is there
-abbrev pub is_kept : Option LineAttr → Bool
-is_kept None = true
-is_kept (Some attr) = not (is_plain attr)
+abbrev pub is_stored : Option LineAttr → Bool
+is_stored None = true
+is_stored (Some attr) = not (is_plain attr)
 
 -- whether a value may stand at a key of a sheet: it is one of the key's kind, the place or the line lies inside the sheet, a cell may stand
 -- there, what a line has is something, and each merge lies inside. A setting stands in no sheet
@@ -144,7 +144,7 @@ value_fits (CellKey id place) (CellValue entry) = is_place place && cell_stands_
 value_fits (LinkKey id place) (LinkValue entry) = is_place place
 value_fits (MergesKey id) (MergesValue merges) = list_all is_inside merges
 value_fits (FieldKey id field) (FieldValue value) = is_of field value
-value_fits (AttrKey id axis line) (AttrValue entry) = is_line (along_of axis).last line && is_kept entry
+value_fits (AttrKey id axis line) (AttrValue entry) = is_line (along_of axis).last line && is_stored entry
 value_fits (SettingKey kind) value = false
 value_fits _ _ = false
 

@@ -205,7 +205,7 @@ fn take_back(alloc: Global, workbook: &mut Workbook, diff: &Diff, at: u64) -> Re
 }
 
 /// The workbook with the changes of a list made in order.
-fn made(alloc: Global, workbook: &Workbook, list: &DiffList) -> Result<Workbook, EditError>
+fn later_book(alloc: Global, workbook: &Workbook, list: &DiffList) -> Result<Workbook, EditError>
     requires canonical { IsCanonicalList list.now }
     requires placed { IsPlacedBook workbook.now }
     ensures { Answers result (untested_after workbook.now list.now) }
@@ -255,7 +255,7 @@ pub fn forward(alloc: Global, workbook: &Workbook, list: &DiffList) -> Result<Wo
     requires rules { IsWellFormed workbook.now }
     ensures { Answers result (book_after workbook.now list.now) }
 {
-    let next = made(alloc, workbook, list)?;
+    let next = later_book(alloc, workbook, list)?;
     by_rule(next, list.get().as_slice().len() as u64)
 }
 
@@ -287,7 +287,7 @@ pub fn forward_in_place(
         [] => Ok(()),
         [diff] => make(alloc, workbook, diff, 0),
         _ => {
-            *workbook = made(alloc, workbook, list)?;
+            *workbook = later_book(alloc, workbook, list)?;
             Ok(())
         }
     }

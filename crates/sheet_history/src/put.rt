@@ -9,7 +9,7 @@ ghost use Rattle.base_values.specs.declared.EditError.TheVariants.{InvalidRow, I
 ghost use Rattle.sheet_grid.specs.Lines.{column_of_line, row_of_line};
 ghost use Rattle.sheet_grid.specs.CanonicalCell.{IsCanonicalCell};
 ghost use Rattle.sheet_lines.specs.Sheets.{IsPlacedBook};
-ghost use Rattle.sheet_history.specs.Entries.{cell_stands_at, is_kept, with_sheet_entry};
+ghost use Rattle.sheet_history.specs.Entries.{cell_stands_at, is_stored, with_sheet_entry};
 ghost use Rattle.sheet_history.specs.Entries.EntryKey.{CellKey, LinkKey, MergesKey, FieldKey, AttrKey};
 ghost use Rattle.sheet_history.specs.Entries.EntryValue.{CellValue, LinkValue, MergesValue, FieldValue, AttrValue};
 ghost use Rattle.sheet_history.specs.Fields.{field_of, with_field};
@@ -101,8 +101,8 @@ fn put_field_in(sheet: &mut Worksheet, value: SheetField)
 }
 
 /// Whether what a line gets is something, or it is left with nothing.
-fn is_kept(entry: &Option<LineAttr>) -> bool
-    ensures { result ≡ is_kept entry.now }
+fn is_stored(entry: &Option<LineAttr>) -> bool
+    ensures { result ≡ is_stored entry.now }
 {
     match entry {
         Some(attr) => !attr.is_plain(),
@@ -112,7 +112,7 @@ fn is_kept(entry: &Option<LineAttr>) -> bool
 
 /// What a row gets, as a row's. `NoMemory` alone is an error.
 fn row_attr(entry: &Option<LineAttr>) -> Result<Option<RowAttr>, EditError>
-    ensures made { IfOk result (λ attr. attr ≡ option_map row_of_line entry.now) }
+    ensures output { IfOk result (λ attr. attr ≡ option_map row_of_line entry.now) }
     ensures only { IsOkUnless result NoMemory }
 {
     Ok(copy_of(entry)?.map(LineAttr::into_row))
@@ -120,7 +120,7 @@ fn row_attr(entry: &Option<LineAttr>) -> Result<Option<RowAttr>, EditError>
 
 /// Puts what a row of a sheet has of its own, which is something.
 fn put_row_in(sheet: &mut Worksheet, row: i32, entry: &Option<LineAttr>) -> Result<(), EditError>
-    requires { IsTrue (is_kept entry.now) }
+    requires { IsTrue (is_stored entry.now) }
     ensures { Edits result sheet.old sheet.new (map_ok (λ line. with_sheet_entry (AttrKey sheet.old.id Rows line) (AttrValue entry.now) sheet.old) (line_of (pos 1048576) row InvalidRow)) }
 {
     let attr = row_attr(entry)?;
@@ -129,7 +129,7 @@ fn put_row_in(sheet: &mut Worksheet, row: i32, entry: &Option<LineAttr>) -> Resu
 
 /// What a column gets, as a column's. `NoMemory` alone is an error.
 fn column_attr(entry: &Option<LineAttr>) -> Result<Option<ColumnAttr>, EditError>
-    ensures made { IfOk result (λ attr. attr ≡ option_map column_of_line entry.now) }
+    ensures output { IfOk result (λ attr. attr ≡ option_map column_of_line entry.now) }
     ensures only { IsOkUnless result NoMemory }
 {
     Ok(copy_of(entry)?.map(LineAttr::into_column))
@@ -141,7 +141,7 @@ fn put_column_in(
     column: i32,
     entry: &Option<LineAttr>,
 ) -> Result<(), EditError>
-    requires { IsTrue (is_kept entry.now) }
+    requires { IsTrue (is_stored entry.now) }
     ensures { Edits result sheet.old sheet.new (map_ok (λ line. with_sheet_entry (AttrKey sheet.old.id Columns line) (AttrValue entry.now) sheet.old) (line_of (pos 16384) column InvalidColumn)) }
 {
     let attr = column_attr(entry)?;
@@ -159,7 +159,7 @@ fn put_row_attr(
     ensures { Edits result sheet.old sheet.new (sheet_put at (AttrKey sheet.old.id Rows row) (AttrValue entry.now) sheet.old) }
 {
     let refused = EditError::DiffRefused { entry: 0, diff: at };
-    if !is_kept(entry) {
+    if !is_stored(entry) {
         return Err(refused);
     }
     match put_row_in(sheet, row, entry) {
@@ -180,7 +180,7 @@ fn put_column_attr(
     ensures { Edits result sheet.old sheet.new (sheet_put at (AttrKey sheet.old.id Columns column) (AttrValue entry.now) sheet.old) }
 {
     let refused = EditError::DiffRefused { entry: 0, diff: at };
-    if !is_kept(entry) {
+    if !is_stored(entry) {
         return Err(refused);
     }
     match put_column_in(sheet, column, entry) {

@@ -7,7 +7,7 @@ ghost use Rattle.sheet_lines.specs.Sheets.{IsPlacedBook};
 ghost use Rattle.sheet_history.specs.RuleDiffs.{rule_put, sheet_rule_put};
 
 use base_values::EditError;
-use rule_edits::{RuleChange, goes_back, goes_forward, rules_made, rules_unmade};
+use rule_edits::{RuleChange, goes_back, goes_forward, rules_back, rules_forward};
 use sheet_grid::{Workbook, Worksheet, sheet_index};
 use std::alloc::Global;
 
@@ -25,7 +25,7 @@ fn made_in(
     if !goes_forward(change, rules.as_slice().len()) {
         return Err(EditError::DiffRefused { entry: 0, diff: at });
     }
-    let later = rules_made(alloc, rules, change)?;
+    let later = rules_forward(alloc, rules, change)?;
     sheet.set_conditional_formatting(later);
     Ok(())
 }
@@ -44,7 +44,7 @@ fn unmade_in(
     if !goes_back(change, rules.as_slice().len()) {
         return Err(EditError::DiffRefused { entry: 0, diff: at });
     }
-    let earlier = rules_unmade(alloc, rules, change)?;
+    let earlier = rules_back(alloc, rules, change)?;
     sheet.set_conditional_formatting(earlier);
     Ok(())
 }

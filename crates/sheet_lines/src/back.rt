@@ -79,14 +79,14 @@ fn map_back<A: Axis, M: LineMap<A>, F: Follower<A> + Exact, P: Parts<Part = F::P
     requires lie { AllLie F.Lies (back (way route.now)) map.now }
     requires fit { PartsFit F.Fits (way route.now) (P.part_at parts.now) }
     requires inside { KeysInside lost.now }
-    ensures map { IfOk result (λ made. made ≡ with_lost (way route.now) lost.now (places_restored F.carry_of F.restore_of (way route.now) (P.part_at parts.now) map.now)) }
+    ensures map { IfOk result (λ output. output ≡ with_lost (way route.now) lost.now (places_restored F.carry_of F.restore_of (way route.now) (P.part_at parts.now) map.now)) }
     ensures only { IsOkUnless result NoMemory }
 {
-    let made = restored_places(alloc, route, parts, map)?;
+    let output = restored_places(alloc, route, parts, map)?;
     if route.is_edited {
-        overlaid_places(lost, made)
+        overlaid_places(lost, output)
     } else {
-        Ok(made)
+        Ok(output)
     }
 }
 
@@ -98,7 +98,7 @@ fn lines_back<A: Axis, B: Axis, M: LineMap<A>>(
     lines: &AxisMap<B, LineAttr>,
 ) -> Result<AxisMap<B, LineAttr>, EditError>
     requires { LinesLie A.along kept.now.lines }
-    ensures lines { IfOk result (λ made. made ≡ lines_restored B.along (way route.now) lines.now kept.now.lines) }
+    ensures lines { IfOk result (λ output. output ≡ lines_restored B.along (way route.now) lines.now kept.now.lines) }
     ensures only { IsOkUnless result NoMemory }
 {
     if !route.is_edited || !A::of(B::of(true, false), B::of(false, true)) {
@@ -118,7 +118,7 @@ fn merges_back<A: Axis, M: LineMap<A>>(
 ) -> Result<MergeList, EditError>
     requires inside { MergesLie sheet.now.merges }
     requires kept { IfSome kept.now.merges MergesLie }
-    ensures merges { IfOk result (λ made. made ≡ merges_back (way route.now) kept.now.merges sheet.now.merges) }
+    ensures merges { IfOk result (λ output. output ≡ merges_back (way route.now) kept.now.merges sheet.now.merges) }
     ensures only { IsOkUnless result NoMemory }
 {
     let merges = sheet.merge_list();
@@ -140,7 +140,7 @@ fn formattings_back<A: Axis, M: LineMap<A>>(
 ) -> Result<RuleList, EditError>
     requires inside { RulesLie sheet.now.formattings }
     requires numbers { AreCanonicalKept kept.now.formattings }
-    ensures formattings { IfOk result (λ made. made ≡ formattings_back (way route.now) kept.now.formattings sheet.now.formattings) }
+    ensures formattings { IfOk result (λ output. output ≡ formattings_back (way route.now) kept.now.formattings sheet.now.formattings) }
     ensures only { IsOkUnless result NoMemory }
 {
     let rules = sheet.conditional_formatting();
@@ -161,7 +161,7 @@ fn sheet_back<A: Axis, M: LineMap<A>>(
     requires placed { IsPlacedSheet sheet.now }
     requires numbers { AreCanonicalLines kept.now }
     requires inside { LieInside A.along kept.now }
-    ensures sheet { IfOk result (λ made. made ≡ sheet_back (way_on edited.now sheet.now) kept.now sheet.now) }
+    ensures sheet { IfOk result (λ output. output ≡ sheet_back (way_on edited.now sheet.now) kept.now sheet.now) }
     ensures only { IsOkUnless result NoMemory }
 {
     let route = route_on(edited, sheet);
@@ -194,14 +194,14 @@ fn sheets_back<A: Axis, M: LineMap<A>>(
     requires placed { AllByRecursion IsPlacedSheet sheets.now }
     requires numbers { AreCanonicalLines kept.now }
     requires inside { LieInside A.along kept.now }
-    ensures sheets { IfOk result (λ made. made ≡ map (λ sheet. sheet_back (way_on edited.now sheet) kept.now sheet) sheets.now) }
+    ensures sheets { IfOk result (λ output. output ≡ map (λ sheet. sheet_back (way_on edited.now sheet) kept.now sheet) sheets.now) }
     ensures only { IsOkUnless result NoMemory }
 {
-    let mut made = Items::empty(alloc);
+    let mut output = Items::empty(alloc);
     for sheet in sheets {
-        made.push(sheet_back(alloc, edited, kept, sheet)?)?;
+        output.push(sheet_back(alloc, edited, kept, sheet)?)?;
     }
-    Ok(made)
+    Ok(output)
 }
 
 /// Takes back what `line_edit` did to the lines of the sheet of an id: each place of the sheet goes
@@ -222,12 +222,12 @@ pub fn line_back<A: Axis>(
     requires placed { IsPlacedBook workbook.now }
     requires numbers { AreCanonicalLines kept.now }
     requires inside { LieInside A.along kept.now }
-    ensures workbook { IfOk result (λ made. made ≡ book_back A.along edit.now.kind sheet_id kept.now workbook.now) }
+    ensures workbook { IfOk result (λ output. output ≡ book_back A.along edit.now.kind sheet_id kept.now workbook.now) }
     ensures placed { ArePlacedLines kept.now → IfOk result IsPlacedBook }
     ensures only { IsOkUnless result NoMemory }
 {
     let opposite = edit.opposite();
     let edited = edited_by(workbook, sheet_id, edit, &opposite);
-    let made = sheets_back(alloc, &edited, kept, workbook.worksheets())?;
-    workbook.with_worksheets(made)
+    let output = sheets_back(alloc, &edited, kept, workbook.worksheets())?;
+    workbook.with_worksheets(output)
 }

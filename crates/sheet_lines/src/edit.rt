@@ -75,11 +75,11 @@ pub fn line_edit<A: Axis>(
     requires valid { IsValid A.along.last edit.now.kind }
     requires there { IsTrue (is_some (sheet_of workbook.now sheet_id)) }
     requires placed { IsPlacedBook workbook.now }
-    ensures workbook { IfOk result (λ made. made.0 ≡ book_followed A.along edit.now.kind sheet_id workbook.now) }
-    ensures placed { IfOk result (λ made. IsPlacedBook made.0) }
-    ensures kept { IfOk result (λ made. made.1 ≡ kept_lines A.along edit.now.kind sheet_id workbook.now) }
-    ensures numbers { IfOk result (λ made. AreCanonicalLines made.1) }
-    ensures inside { IfOk result (λ made. LieInside A.along made.1) }
+    ensures workbook { IfOk result (λ output. output.0 ≡ book_followed A.along edit.now.kind sheet_id workbook.now) }
+    ensures placed { IfOk result (λ output. IsPlacedBook output.0) }
+    ensures kept { IfOk result (λ output. output.1 ≡ kept_lines A.along edit.now.kind sheet_id workbook.now) }
+    ensures numbers { IfOk result (λ output. AreCanonicalLines output.1) }
+    ensures inside { IfOk result (λ output. LieInside A.along output.1) }
     ensures only { IsOkUnless result NoMemory }
 {
     let opposite = edit.opposite();

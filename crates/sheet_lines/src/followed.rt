@@ -50,6 +50,7 @@ fn followed_with<A: Axis, M: LineMap<A>>(
     ensures sheet { IfOk result (λ followed. followed ≡ record (sheet_followed (way route.now) sheet.now) { cells = cells }) }
     ensures only { IsOkUnless result NoMemory }
 {
+    // For the proof: what lies inside.
     places_inside(sheet.link_map());
     lines_inside(sheet.row_map());
     lines_inside(sheet.column_map());
@@ -131,15 +132,15 @@ pub(crate) fn followed_with_kept<A: Axis, M: LineMap<A>>(
     ensures numbers { IfOk result (λ both. AreCanonicalFormulas both.1.formulas) }
     ensures only { IsOkUnless result NoMemory }
 {
-    let (mut made, lost) = (Items::empty(alloc), None);
+    let (mut output, lost) = (Items::empty(alloc), None);
     let formulas = SheetPlaceMap::new(alloc);
     let mut kept = KeptOfCells { lost, formulas };
     for sheet in sheets {
         let (followed, more) = followed_and_kept(alloc, edited, sheet)?;
         kept = with_sheet(edited, kept, sheet, more)?;
-        made.push(followed)?;
+        output.push(followed)?;
     }
-    Ok((made, kept))
+    Ok((output, kept))
 }
 
 fn followed_sheets<A: Axis, M: LineMap<A>>(
@@ -151,11 +152,11 @@ fn followed_sheets<A: Axis, M: LineMap<A>>(
     ensures sheets { IfOk result (λ followed. followed ≡ map (λ sheet. sheet_followed (way_on edited.now sheet) sheet) sheets.now) }
     ensures only { IsOkUnless result NoMemory }
 {
-    let mut made = Items::empty(alloc);
+    let mut output = Items::empty(alloc);
     for sheet in sheets {
-        made.push(followed_sheet(alloc, edited, sheet)?)?;
+        output.push(followed_sheet(alloc, edited, sheet)?)?;
     }
-    Ok(made)
+    Ok(output)
 }
 
 /// The sheet of an id that is edited, with the edit and its opposite.

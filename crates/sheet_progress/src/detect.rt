@@ -3,6 +3,7 @@ ghost use Rattle.std.specs.declared.option.Option.{Option};
 ghost use Rattle.base_values.specs.declared.EditError.TheVariants.{NoMemory};
 ghost use Rattle.sheet_progress.specs.declared.progression.Progression.{Progression as AnyProgression};
 ghost use Rattle.sheet_progress.specs.declared.progression.Progression.TheVariants.{SuffixedNumber};
+ghost use Rattle.sheet_progress.specs.Detectors.{TellsSameDetectors};
 ghost use Rattle.sheet_progress.specs.Names.{normal_form, names, all_lists, place_among};
 ghost use Rattle.sheet_progress.specs.Progressions.{numeric_steps, numeric_of, suffixed_of, named_in, first_of, named_of, progression_of};
 ghost use Rattle.sheet_progress.specs.Texts.{texts, steps_in};
@@ -66,6 +67,15 @@ pub struct DateProgressionDetector<'a> {
     pub locale: Locale,
     /// The text by whose case the names go on.
     pub case_seed: &'a str,
+}
+
+/// The law of equality: two detectors of names are equal where they have one locale and seeds of one
+/// text.
+#[tactic(auto, using(crate::specs::laws::DetectorEquals::date_detector_equals))]
+pub fn detector_equality_is_of_values()
+    ensures { TellsSameDetectors }
+{
+    // A law does no work.
 }
 
 fn numeric_steps<F: FindNumber>(

@@ -17,6 +17,6 @@ mod trim;
 
 pub use detect::{
     DateProgressionDetector, NumericProgressionDetector, SequenceDetector, SuffixedNumberDetector,
-    detect_progression,
+    detect_progression, detector_equality_is_of_values,
 };
 pub use progression::{DateProgression, NumericProgression, Progression, SuffixedProgression};

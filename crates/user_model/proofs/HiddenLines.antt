@@ -24,7 +24,7 @@ unfolding attrs_set lines_from
 hidden_lines index axis first last hidden w is = go (sheet_at w index) (has_lines (along_of axis).last first last) is
   where
     go : (r : Result Sheet EditError) (b : Bool)
-        → IsOk (and_then r (λ sheet. map_ok (with_sheet w index) (and_then (cond b (Ok (line_count first last)) (Err InvalidArea)) (λ count. map_ok (λ made. lines_set axis made first count sheet) (Ok (Hidden hidden))))))
+        → IsOk (and_then r (λ sheet. map_ok (with_sheet w index) (and_then (cond b (Ok (line_count first last)) (Err InvalidArea)) (λ count. map_ok (λ output. lines_set axis output first count sheet) (Ok (Hidden hidden))))))
         → b ≡ true
     go (Ok sheet) true ok = refl
     go (Ok sheet) false ok = absurd (let never : false ≡ true = ok in cc)

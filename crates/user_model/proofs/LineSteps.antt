@@ -120,7 +120,7 @@ module _ (a : Along) (axis : LineAxis) (named : a ≡ along_of axis) (kind : Edi
 
     -- the list that was made is the record of the edit
     pub list_is : (list : List Diff) → ◌≡◌ {A = Result (List Diff) EditError} (Ok (LinesDiff id axis kind kept ∷ [])) (Ok list) → list ≡ line_record axis kind id book
-    list_is list made = let same : LinesDiff id axis kind kept ∷ [] ≡ list = cc in sym same ∙ ap (λ k. LinesDiff id axis kind k ∷ []) kept_along
+    list_is list output = let same : LinesDiff id axis kind kept ∷ [] ≡ list = cc in sym same ∙ ap (λ k. LinesDiff id axis kind k ∷ []) kept_along
 
   -- to install the followed workbook with it is to record the edit
   pub installed_document : (id : ℕ) (doc : Document) (later : Book) (list : List Diff) → later ≡ book_followed a kind id doc.book → list ≡ line_record axis kind id doc.book

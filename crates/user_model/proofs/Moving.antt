@@ -152,10 +152,10 @@ queued_known doc is = subst IsKnownQueue (sym (ap (λ (d : Document). d.queue) i
 -- ---- what callers see
 
 -- a refused call leaves the session
-pub same_session : {T : Type 0} (result : Result T EditError) (book later : OpenBook) (results made : Results) (seen : Session) → session_of book results ≡ seen
-    → OnErr result (document_in later ≡ document_in book) → OnErr result (made ≡ results) → OnErr result (session_of later made ≡ seen)
-same_session (Ok value) book later results made seen is one two = tt
-same_session (Err error) book later results made seen is one two = (λ i. record { document = one i; values = (two i).values; paused = (two i).paused }) ∙ is
+pub same_session : {T : Type 0} (result : Result T EditError) (book later : OpenBook) (results output : Results) (seen : Session) → session_of book results ≡ seen
+    → OnErr result (document_in later ≡ document_in book) → OnErr result (output ≡ results) → OnErr result (session_of later output ≡ seen)
+same_session (Ok value) book later results output seen is one two = tt
+same_session (Err error) book later results output seen is one two = (λ i. record { document = one i; values = (two i).values; paused = (two i).paused }) ∙ is
 
 -- ---- silent edits
 

@@ -118,19 +118,19 @@ number_is i (Err error) f at diff is = absurd (let never : ◌≡◌ {A = Result
 module _ (Fits : Book → Values → Type 0) (first old : Session) where
   -- one entry more was followed, and values were made
   pub made_next : (entries : List QueueDiffs) (i : ℕ) (e : QueueDiffs) → take (i + 1) entries ≡ take i entries ++ e ∷ [] → IsMade Fits old → MakesAfter (i + 1) entries Fits first old
-  made_next entries i e front made = subst (λ b. Makes b Fits first old) (sym (ap (λ l. is_none_left l) front ∙ some_left (take i entries) e)) made
+  made_next entries i e front output = subst (λ b. Makes b Fits first old) (sym (ap (λ l. is_none_left l) front ∙ some_left (take i entries) e)) output
 
   -- all entries were followed
   pub made_all : (entries : List QueueDiffs) (i : ℕ) → length entries ≤ i → MakesAfter i entries Fits first old → Makes (is_none_left entries) Fits first old
-  made_all entries i over made = subst (λ l. Makes (is_none_left l) Fits first old) (take_all i entries over) made
+  made_all entries i over output = subst (λ l. Makes (is_none_left l) Fits first old) (take_all i entries over) output
 
   -- a refused entry leaves what was made by those before it, or what was there at first
   pub made_refused : (new : Session) → new ≡ old → (entries : List QueueDiffs) (i : ℕ) (r : Result Book EditError) (f : Book → State) → MakesAfter i entries Fits first old
       → (error : EditError) → (error ≢ NoMemory → map_ok f (in_entry i r) ≡ Err error) → LeavesMade (Err error) entries Fits first new
-  made_refused new same entries i r f made = by_error
+  made_refused new same entries i r f output = by_error
     where
       after : MakesAfter i entries Fits first new
-      after = subst (λ n. MakesAfter i entries Fits first n) (sym same) made
+      after = subst (λ n. MakesAfter i entries Fits first n) (sym same) output
 
       by_error : (error : EditError) → (error ≢ NoMemory → map_ok f (in_entry i r) ≡ Err error) → LeavesMade (Err error) entries Fits first new
       by_error (DiffRefused at diff) refused = subst (λ n. MakesAfter n entries Fits first new) (sym (number_is i r f at diff (refused (λ is. cc)))) after
@@ -139,12 +139,12 @@ module _ (Fits : Book → Values → Type 0) (first old : Session) where
 -- values were made, or all stays
 either_made : (none : Bool) (Fits : Book → Values → Type 0) (old new : Session) → Makes none Fits old new → IsMade Fits new ⊎ (new ≡ old)
 either_made true Fits old new same = inr same
-either_made false Fits old new made = inl made
+either_made false Fits old new output = inl output
 
 pub left_made : (result : Result (Unit {0}) EditError) (entries : List QueueDiffs) (Fits : Book → Values → Type 0) (old new : Session) → LeavesMade result entries Fits old new → IsMade Fits new ⊎ (new ≡ old)
-left_made (Ok u) entries Fits old new made = either_made (is_none_left entries) Fits old new made
-left_made (Err (DiffRefused at diff)) entries Fits old new made = either_made (is_none_left (take at entries)) Fits old new made
-left_made (Err error) entries Fits old new made = either_made (is_none_left (take made.0 entries)) Fits old new made.1
+left_made (Ok u) entries Fits old new output = either_made (is_none_left entries) Fits old new output
+left_made (Err (DiffRefused at diff)) entries Fits old new output = either_made (is_none_left (take at entries)) Fits old new output
+left_made (Err error) entries Fits old new output = either_made (is_none_left (take output.0 entries)) Fits old new output.1
 
 -- ---- entries that lead to a later workbook
 

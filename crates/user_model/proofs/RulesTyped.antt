@@ -25,12 +25,12 @@ module _ (index : ℕ) (r : MergedCell) (text : List ℕ) (book : Book) (languag
   -- and where it is
   pub read_there : (place : Position) → rule_goes index r book ≡ Ok place → (result : Result Node EditError) → IsOkUnless result NoMemory
       → IfOk result (λ tree. tree ≡ formula_at place text book language) → Returns result (rule_formula index r text book language)
-  read_there place is (Ok tree) only made = record {
-    done = ap (map_ok (λ at. formula_at at text book language)) is ∙ ap Ok (sym made);
+  read_there place is (Ok tree) only output = record {
+    done = ap (map_ok (λ at. formula_at at text book language)) is ∙ ap Ok (sym output);
     refused = tt;
     memory = tt;
   }
-  read_there place is (Err error) only made = record {
+  read_there place is (Err error) only output = record {
     done = tt;
     refused = λ other. absurd (other only);
     memory = λ short. subst IsOk (sym (ap (map_ok (λ at. formula_at at text book language)) is)) refl;

@@ -151,7 +151,7 @@ module _ (sheet : Sheet) (name : List ℕ) (w : Book) (rules : IsWellFormed w) (
 
 -- ---- a changed name
 
-module _ (change : NameChange) (w : Book) (rules : IsWellFormed w) (made : IsMade change.index change.old change.new w) where
+module _ (change : NameChange) (w : Book) (rules : IsWellFormed w) (output : IsMade change.index change.old change.new w) where
   abbrev lost : KeptTrees
   lost = trees_lost change w
 
@@ -177,7 +177,7 @@ module _ (change : NameChange) (w : Book) (rules : IsWellFormed w) (made : IsMad
   name_known : IsCanonicalDiff (name_diff w change) → IsKnownDiff (name_diff w change)
   name_known numbers =
       known_diff (NameDiff change lost) numbers (
-        record { old = shallow_name change.old (old_fits change.index w change.old change.new rules made.at); new = shallow_name change.new made.fits },
+        record { old = shallow_name change.old (old_fits change.index w change.old change.new rules output.at); new = shallow_name change.new output.fits },
         record {
           formulas = shallow_lost;
           names = λ place. subst (λ o. IfSome o (λ tree. IsTrue (is_within 64 tree))) (sym (get-empty nat_cmp place)) tt;
@@ -244,17 +244,17 @@ module _ (w : Book) (rules : IsWellFormed w) where
   names_spellable : (edit : NameEdit) (r : Result NameChange EditError) → name_change edit w ≡ r → IsCanonicalList (one_diff (map_ok (name_diff w) r)) → AreSpellable (one_diff (map_ok (name_diff w) r))
   names_spellable edit (Err error) found numbers = tt
   names_spellable edit (Ok change) found numbers =
-      (name_known change w rules (edited w rules edit change found).made (recursion_from_All IsCanonicalDiff (one_diff (Ok (name_diff w change))) numbers).0, tt)
+      (name_known change w rules (edited w rules edit change found).output (recursion_from_All IsCanonicalDiff (one_diff (Ok (name_diff w change))) numbers).0, tt)
 
   rules_spellable : (edit : RuleEdit) → IsCanonicalList (rules_record edit w) → AreSpellable (rules_record edit w)
   rules_spellable edit numbers = on_sheet (sheet_at w (sheet_index_of edit)) refl numbers
     where
       on_changes : (sheet : Sheet) → sheet_at w (sheet_index_of edit) ≡ Ok sheet → (r : Result (List RuleChange) EditError) → rule_changes edit sheet.formattings ≡ r
           → IsCanonicalList (all_diffs (map_ok (diffs_of sheet) r)) → AreSpellable (all_diffs (map_ok (diffs_of sheet) r))
-      on_changes sheet at (Err error) made numbers = tt
-      on_changes sheet at (Ok changes) made numbers =
+      on_changes sheet at (Err error) output numbers = tt
+      on_changes sheet at (Ok changes) output numbers =
           let stand = sheet_rules_stand w rules sheet.id sheet (there w rules (sheet_index_of edit) sheet at) in
-          changes_known sheet.id changes sheet.formattings stand (edited_go sheet.formattings stand edit changes made)
+          changes_known sheet.id changes sheet.formattings stand (edited_go sheet.formattings stand edit changes output)
           (recursion_from_All IsCanonicalDiff (diffs_of sheet changes) numbers)
 
       diffs : Result Sheet EditError → List Diff

@@ -23,7 +23,7 @@ use Rattle.sheet_history.specs.declared.LineAxis.{LineAxis}
 use Rattle.sheet_history.specs.LineDiffs.{along_of}
 use Rattle.sheet_history.specs.Diffs.{IsCanonicalDiff, IsCanonicalList}
 use Rattle.book_sheets.specs.SheetDiffs.{lies_inside}
-use Rattle.sheet_history.specs.Entries.{cell_stands_at, is_kept, value_fits, accepts}
+use Rattle.sheet_history.specs.Entries.{cell_stands_at, is_stored, value_fits, accepts}
 use Rattle.sheet_history.specs.Entries.EntryKey.{CellKey, AttrKey}
 use Rattle.sheet_history.specs.Entries.EntryValue.{CellValue, AttrValue}
 use Rattle.sheet_history.specs.Records.{Change, change_of, IsRecord}
@@ -43,7 +43,7 @@ not_plain true h = absurd cc
 not_plain false h = refl
 
 -- an attribute that may stand is not plain
-kept_standing : (entry : Option LineAttr) → is_kept entry ≡ true → IfSome entry (λ attr. is_plain attr ≡ false)
+kept_standing : (entry : Option LineAttr) → is_stored entry ≡ true → IfSome entry (λ attr. is_plain attr ≡ false)
 kept_standing None kept = tt
 kept_standing (Some attr) kept = not_plain (is_plain attr) kept
 
@@ -58,7 +58,7 @@ module _ (w : Book) where
   unfolding accepts
   known_line id axis line entry accepted =
       let fits = (both (is_some (sheet_of w id)) (value_fits (AttrKey id axis line) (AttrValue entry)) accepted).1 in
-      kept_standing entry (both (is_line (along_of axis).last line) (is_kept entry) fits).1
+      kept_standing entry (both (is_line (along_of axis).last line) (is_stored entry) fits).1
 
   -- a diff whose values the workbook can take can be spelled
   known : (diff : Diff) (c : Change) → change_of diff ≡ Some c → accepts w c.0 c.1.1 ≡ true → accepts w c.0 c.1.0 ≡ true → IsCanonicalDiff diff → IsKnownDiff diff

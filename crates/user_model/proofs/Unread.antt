@@ -47,7 +47,7 @@ read_leaves result new queue entries s again leaves = let same : queue ≡ entri
 
 pub read_made : (result : Result (Unit {0}) EditError) (queue entries : List QueueDiffs) (Fits : Book → Values → Type 0) (old new : Session)
     → Answers (Ok queue) (Ok entries) → LeavesMade result queue Fits old new → LeavesMade result entries Fits old new
-read_made result queue entries Fits old new again made = let same : queue ≡ entries = cc in subst (λ q. LeavesMade result q Fits old new) same made
+read_made result queue entries Fits old new again output = let same : queue ≡ entries = cc in subst (λ q. LeavesMade result q Fits old new) same output
 
 -- where entries were taken, the document stands for some state
 pub left_reached : (result : Result (Unit {0}) EditError) (new : Document) (entries : List QueueDiffs) (s : State) → Leaves result new entries s → IsReached new

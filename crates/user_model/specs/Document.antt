@@ -84,7 +84,7 @@ document_edit edit doc = if is_silent edit doc.book then Ok doc else map_ok (edi
 
 -- how many records are stale after an undo or a redo: once a stale one was used, all are
 abbrev pub stale_after : Bool → ℕ → ℕ → ℕ
-stale_after kept before count = if kept then before else count
+stale_after is_recorded before count = if is_recorded then before else count
 
 -- whether the next record to undo is one of a step
 abbrev pub can_undo_step : Document → Bool

@@ -34,7 +34,7 @@ update_typed scope name new_scope new_name text s = edit_of (ChangeNames (Update
 
 -- the scope of such a new name of a workbook, or why there is none
 abbrev pub name_tested : Option ℕ → List ℕ → List ℕ → Book → Language → Result (Option ℕ) EditError
-name_tested scope name text book language = map_ok (λ (made : DefinedName). made.scope) (valid_name scope name (formula_typed book language (pos 1) (pos 1) text) book)
+name_tested scope name text book language = map_ok (λ (output : DefinedName). output.scope) (valid_name scope name (formula_typed book language (pos 1) (pos 1) text) book)
 
 -- the formula of a conditional rule that a text is read as, at the first place of a rectangle of the sheet at an index, or why there is none
 abbrev pub rule_formula : ℕ → MergedCell → List ℕ → Book → Language → Result Node EditError

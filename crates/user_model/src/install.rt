@@ -51,21 +51,21 @@ fn follow_untested(
     }
 }
 
-/// Follows a list in the workbook itself, or refuses it. Where `kept` is true, the list is known
+/// Follows a list in the workbook itself, or refuses it. Where `known` is true, the list is known
 /// not to be refused, and the result is not tested.
 fn follow(
     alloc: Global,
     workbook: &mut Workbook,
     kind: DiffType,
     list: &DiffList,
-    kept: bool,
+    known: bool,
 ) -> Result<(), EditError>
     requires canonical { IsCanonicalList list.now }
     requires rules { IsWellFormed workbook.old }
-    requires works { kept ≡ true → IsOk (follow kind workbook.old list.now) }
+    requires works { known ≡ true → IsOk (follow kind workbook.old list.now) }
     ensures { Edits result workbook.old workbook.new (follow kind workbook.old list.now) }
 {
-    if kept {
+    if known {
         return follow_untested(alloc, workbook, kind, list);
     }
     follow_in_place(alloc, workbook, kind, list)
@@ -78,7 +78,7 @@ pub(crate) fn values_of<R: Recalc>(
     paused: bool,
     recalc: &mut R,
 ) -> Result<Computed, EditError>
-    ensures made { IfOk result (AreMade R.Fits paused workbook.now) }
+    ensures output { IfOk result (AreMade R.Fits paused workbook.now) }
     ensures only { IsOkUnless result NoMemory }
     ensures sure { (paused ≡ false → R.Sure) → IsOk result }
 {
@@ -101,7 +101,7 @@ fn install_on_copy<R: Recalc>(
     requires canonical { IsCanonicalList list.now }
     requires rules { IsWellFormed workbook.old }
     ensures installed { Edits result workbook.old workbook.new (follow kind workbook.old list.now) }
-    ensures made { OnOk result (AreMade R.Fits results.new.paused workbook.new results.new.values) }
+    ensures output { OnOk result (AreMade R.Fits results.new.paused workbook.new results.new.values) }
     ensures err { OnErr result (results.new ≡ results.old) }
     ensures paused { results.new.paused ≡ results.old.paused }
 {
@@ -121,18 +121,18 @@ fn install_in_place<R: Recalc>(
     recalc: &mut R,
     kind: DiffType,
     list: &DiffList,
-    kept: bool,
+    known: bool,
 ) -> Result<(), EditError>
     requires canonical { IsCanonicalList list.now }
     requires rules { IsWellFormed workbook.old }
-    requires works { kept ≡ true → IsOk (follow kind workbook.old list.now) }
+    requires works { known ≡ true → IsOk (follow kind workbook.old list.now) }
     requires sure { results.old.paused ≡ false → R.Sure }
     ensures installed { Edits result workbook.old workbook.new (follow kind workbook.old list.now) }
-    ensures made { OnOk result (AreMade R.Fits results.new.paused workbook.new results.new.values) }
+    ensures output { OnOk result (AreMade R.Fits results.new.paused workbook.new results.new.values) }
     ensures err { OnErr result (results.new ≡ results.old) }
     ensures paused { results.new.paused ≡ results.old.paused }
 {
-    follow(alloc, workbook, kind, list, kept)?;
+    follow(alloc, workbook, kind, list, known)?;
     match values_of(alloc, workbook, results.paused, recalc) {
         Ok(values) => {
             results.values = values;
@@ -151,7 +151,7 @@ fn goes_in_place<R: Recalc>(paused: bool, recalc: &R) -> bool
 }
 
 /// Makes the workbook after a list, in its direction, the present one, with its values, or refuses
-/// the list. Where `kept` is true, the list is known not to be refused. An error changes nothing.
+/// the list. Where `known` is true, the list is known not to be refused. An error changes nothing.
 pub(crate) fn install<R: Recalc>(
     alloc: Global,
     workbook: &mut Workbook,
@@ -159,18 +159,18 @@ pub(crate) fn install<R: Recalc>(
     recalc: &mut R,
     kind: DiffType,
     list: &DiffList,
-    kept: bool,
+    known: bool,
 ) -> Result<(), EditError>
     requires canonical { IsCanonicalList list.now }
     requires rules { IsWellFormed workbook.old }
-    requires works { kept ≡ true → IsOk (follow kind workbook.old list.now) }
+    requires works { known ≡ true → IsOk (follow kind workbook.old list.now) }
     ensures installed { Edits result workbook.old workbook.new (follow kind workbook.old list.now) }
-    ensures made { OnOk result (AreMade R.Fits results.new.paused workbook.new results.new.values) }
+    ensures output { OnOk result (AreMade R.Fits results.new.paused workbook.new results.new.values) }
     ensures err { OnErr result (results.new ≡ results.old) }
     ensures paused { results.new.paused ≡ results.old.paused }
 {
     if goes_in_place(results.paused, recalc) {
-        return install_in_place(alloc, workbook, results, recalc, kind, list, kept);
+        return install_in_place(alloc, workbook, results, recalc, kind, list, known);
     }
     install_on_copy(alloc, workbook, results, recalc, kind, list)
 }
@@ -184,22 +184,22 @@ pub(crate) fn install_viewed<R: Recalc>(
     recalc: &mut R,
     kind: DiffType,
     list: &DiffList,
-    kept: bool,
+    known: bool,
 ) -> Result<(), EditError>
     requires canonical { IsCanonicalList list.now }
     requires rules { IsWellFormed workbook.old }
-    requires works { kept ≡ true → IsOk (follow kind workbook.old list.now) }
+    requires works { known ≡ true → IsOk (follow kind workbook.old list.now) }
     ensures installed { Edits result workbook.old workbook.new (follow kind workbook.old list.now) }
     ensures seen { OnOk result (view.new ≡ view_followed kind list.now workbook.old workbook.new view.old) }
     ensures same { OnErr result (view.new ≡ view.old) }
-    ensures made { OnOk result (AreMade R.Fits results.new.paused workbook.new results.new.values) }
+    ensures output { OnOk result (AreMade R.Fits results.new.paused workbook.new results.new.values) }
     ensures err { OnErr result (results.new ≡ results.old) }
     ensures paused { results.new.paused ≡ results.old.paused }
 {
     let diffs = list.get().as_slice();
     let selected = selection_followed(kind, workbook, diffs, view.sheet)?;
     let was = viewed_id(workbook.worksheets(), *view);
-    install(alloc, workbook, results, recalc, kind, list, kept)?;
+    install(alloc, workbook, results, recalc, kind, list, known)?;
     *view = viewed(was, workbook.worksheets(), selected as usize, *view);
     Ok(())
 }

@@ -40,7 +40,7 @@ pub(crate) struct OpenBook {
     pub(crate) plain: DefaultStyle,
     pub(crate) workbook: Workbook,
     pub(crate) history: History,
-    /// How many lists of either stack, the oldest, are of steps that are no longer kept.
+    /// How many lists of either stack, the oldest, are of steps that are no longer recorded.
     pub(crate) stale_undo: usize,
     pub(crate) stale_redo: usize,
     pub(crate) queue: Items<QueueDiffs>,
@@ -52,7 +52,7 @@ pub(crate) struct OpenBook {
 fn list_of(alloc: Global, diff: Diff) -> Result<DiffList, EditError>
     requires canonical { IsCanonicalDiff diff }
     requires known { IsKnownDiff diff }
-    ensures made { Returns result (Ok (diff ∷ [])) }
+    ensures output { Returns result (Ok (diff ∷ [])) }
     ensures canonical { IfOk result IsCanonicalList }
     ensures spellable { IfOk result AreSpellable }
 {
@@ -71,7 +71,7 @@ fn lines_change(
 ) -> Result<DiffList, EditError>
     requires canonical { IsCanonicalDiff (LinesDiff sheet axis edit kept) }
     requires known { IsKnownDiff (LinesDiff sheet axis edit kept) }
-    ensures made { Returns result (Ok (LinesDiff sheet axis edit kept ∷ [])) }
+    ensures output { Returns result (Ok (LinesDiff sheet axis edit kept ∷ [])) }
     ensures canonical { IfOk result IsCanonicalList }
     ensures spellable { IfOk result AreSpellable }
 {
@@ -141,10 +141,10 @@ fn is_silent(count: i32, delta: i32) -> bool
 }
 
 /// How many lists of a stack are stale after an undo or a redo: once a stale one was used, all are.
-fn stale_after(kept: bool, before: usize, count: usize) -> usize
-    ensures { result ≡ stale_after kept before count }
+fn stale_after(is_recorded: bool, before: usize, count: usize) -> usize
+    ensures { result ≡ stale_after is_recorded before count }
 {
-    if kept { before } else { count }
+    if is_recorded { before } else { count }
 }
 
 /// Makes room for one list more on either stack.
@@ -187,14 +187,14 @@ fn send(
     enqueue(queue, DiffType::Redo, list)
 }
 
-/// Whether the newest list to undo is one of a step that is kept.
+/// Whether the newest list to undo is one of a step that is recorded.
 fn has_undo_step(history: &History, stale: usize) -> bool
     ensures { result ≡ nat_lt stale (length history.now.undo) }
 {
     stale < history.undo_len()
 }
 
-/// Whether the newest list to redo is one of a step that is kept.
+/// Whether the newest list to redo is one of a step that is recorded.
 fn has_redo_step(history: &History, stale: usize) -> bool
     ensures { result ≡ nat_lt stale (length history.now.redo) }
 {
@@ -207,18 +207,18 @@ fn undo_counted(
     history: &mut History,
     stale_undo: usize,
     stale_redo: usize,
-    kept: bool,
+    is_recorded: bool,
 ) -> (usize, usize)
     requires room { IsTrue history.now.has_room }
     ensures undo { history.new.undo ≡ (undone history.old).undo }
     ensures redo { history.new.redo ≡ (undone history.old).redo }
-    ensures stale_undo { result.0 ≡ stale_after kept stale_undo (length (undone history.old).undo) }
-    ensures stale_redo { result.1 ≡ stale_after kept stale_redo (length (undone history.old).redo) }
+    ensures stale_undo { result.0 ≡ stale_after is_recorded stale_undo (length (undone history.old).undo) }
+    ensures stale_redo { result.1 ≡ stale_after is_recorded stale_redo (length (undone history.old).redo) }
 {
     match history.undo() {
         Ok(()) => (
-            stale_after(kept, stale_undo, history.undo_len()),
-            stale_after(kept, stale_redo, history.redo_len()),
+            stale_after(is_recorded, stale_undo, history.undo_len()),
+            stale_after(is_recorded, stale_redo, history.redo_len()),
         ),
         Err(_) => unreachable!(),
     }
@@ -230,18 +230,18 @@ fn redo_counted(
     history: &mut History,
     stale_undo: usize,
     stale_redo: usize,
-    kept: bool,
+    is_recorded: bool,
 ) -> (usize, usize)
     requires room { IsTrue history.now.has_room }
     ensures undo { history.new.undo ≡ (redone history.old).undo }
     ensures redo { history.new.redo ≡ (redone history.old).redo }
-    ensures stale_undo { result.0 ≡ stale_after kept stale_undo (length (redone history.old).undo) }
-    ensures stale_redo { result.1 ≡ stale_after kept stale_redo (length (redone history.old).redo) }
+    ensures stale_undo { result.0 ≡ stale_after is_recorded stale_undo (length (redone history.old).undo) }
+    ensures stale_redo { result.1 ≡ stale_after is_recorded stale_redo (length (redone history.old).redo) }
 {
     match history.redo() {
         Ok(()) => (
-            stale_after(kept, stale_undo, history.undo_len()),
-            stale_after(kept, stale_redo, history.redo_len()),
+            stale_after(is_recorded, stale_undo, history.undo_len()),
+            stale_after(is_recorded, stale_redo, history.redo_len()),
         ),
         Err(_) => unreachable!(),
     }
@@ -303,7 +303,7 @@ impl OpenBook {
         requires rules { IsWellFormed self.now.workbook }
         requires works { IsOk (book_after self.now.workbook list) }
         ensures document { Edits result (document_in self.old) (document_in self.new) (list_recorded list selected seen (document_in self.old)) }
-        ensures made { OnOk result (AreMade R.Fits results.new.paused self.new.workbook results.new.values) }
+        ensures output { OnOk result (AreMade R.Fits results.new.paused self.new.workbook results.new.values) }
         ensures err { OnErr result (results.new ≡ results.old) }
         ensures paused { results.new.paused ≡ results.old.paused }
     {
@@ -344,7 +344,7 @@ impl OpenBook {
         requires rules { IsWellFormed self.now.workbook }
         ensures document { (edit : AnyEdit) → IsSeenPlan edit plan selected seen (document_in self.old) → Changes result (document_in self.old) (document_in self.new) (document_edit edit (document_in self.old)) }
         ensures sound { (edit : AnyEdit) → IsSeenPlan edit plan selected seen (document_in self.old) → OnOk result (IsSoundChange edit self.old.workbook) }
-        ensures made { OnOk result (IsMade R.Fits (session_of self.new results.new)) }
+        ensures output { OnOk result (IsMade R.Fits (session_of self.new results.new)) }
         ensures err { OnErr result (results.new ≡ results.old) }
         ensures paused { results.new.paused ≡ results.old.paused }
     {
@@ -364,7 +364,7 @@ impl OpenBook {
     ) -> Result<(), EditError>
         requires { IsCanonicalList list }
         ensures document { Edits result (document_in self.old) (document_in self.new) (Ok (recorded list self.old.view.sheet self.old.view (document_in self.old) later)) }
-        ensures made { OnOk result (IsMade R.Fits (session_of self.new results.new)) }
+        ensures output { OnOk result (IsMade R.Fits (session_of self.new results.new)) }
         ensures err { OnErr result (results.new ≡ results.old) }
         ensures paused { results.new.paused ≡ results.old.paused }
     {
@@ -396,7 +396,7 @@ impl OpenBook {
         requires edit { IsLineEdit axis edit.now.kind id self.now.workbook }
         ensures document { Edits result (document_in self.old) (document_in self.new) (Ok (lines_recorded axis edit.now.kind id (document_in self.old))) }
         ensures spellable { OnOk result (AreSpellable (line_record axis edit.now.kind id self.old.workbook)) }
-        ensures made { OnOk result (IsMade R.Fits (session_of self.new results.new)) }
+        ensures output { OnOk result (IsMade R.Fits (session_of self.new results.new)) }
         ensures err { OnErr result (results.new ≡ results.old) }
         ensures paused { results.new.paused ≡ results.old.paused }
     {
@@ -419,7 +419,7 @@ impl OpenBook {
         requires rules { IsWellFormed self.now.workbook }
         ensures document { Changes result (document_in self.old) (document_in self.new) (document_edit (Lines sheet axis kind) (document_in self.old)) }
         ensures sound { OnOk result (IsSoundChange (Lines sheet axis kind) self.old.workbook) }
-        ensures made { OnOk result (IsMade R.Fits (session_of self.new results.new)) }
+        ensures output { OnOk result (IsMade R.Fits (session_of self.new results.new)) }
         ensures err { OnErr result (results.new ≡ results.old) }
         ensures paused { results.new.paused ≡ results.old.paused }
     {
@@ -444,7 +444,7 @@ impl OpenBook {
         requires rules { IsWellFormed self.now.workbook }
         ensures document { Changes result (document_in self.old) (document_in self.new) (document_edit (MoveLines sheet axis first count delta) (document_in self.old)) }
         ensures sound { OnOk result (IsSoundChange (MoveLines sheet axis first count delta) self.old.workbook) }
-        ensures made { OnOk result (Makes (is_silent_edit (MoveLines sheet axis first count delta) self.old.workbook) R.Fits (session_of self.old results.old) (session_of self.new results.new)) }
+        ensures output { OnOk result (Makes (is_silent_edit (MoveLines sheet axis first count delta) self.old.workbook) R.Fits (session_of self.old results.old) (session_of self.new results.new)) }
         ensures err { OnErr result (results.new ≡ results.old) }
         ensures paused { results.new.paused ≡ results.old.paused }
     {
@@ -467,11 +467,11 @@ impl OpenBook {
     ) -> Result<(), EditError>
         requires { IsReached (document_in self.now) }
         ensures document { Edits result (document_in self.old) (document_in self.new) (document_undo (document_in self.old)) }
-        ensures made { OnOk result (Makes (is_none_left self.old.history.undo) R.Fits (session_of self.old results.old) (session_of self.new results.new)) }
+        ensures output { OnOk result (Makes (is_none_left self.old.history.undo) R.Fits (session_of self.old results.old) (session_of self.new results.new)) }
         ensures err { OnErr result (results.new ≡ results.old) }
         ensures paused { results.new.paused ≡ results.old.paused }
     {
-        let kept = has_undo_step(&self.history, self.stale_undo);
+        let is_recorded = has_undo_step(&self.history, self.stale_undo);
         make_room(&mut self.history)?;
         let Some(list) = self.history.last_undo() else {
             return Ok(());
@@ -486,12 +486,17 @@ impl OpenBook {
             recalc,
             DiffType::Undo,
             list,
-            kept,
+            is_recorded,
         ) {
             self.queue.truncate(length);
             return Err(error);
         }
-        let counts = undo_counted(&mut self.history, self.stale_undo, self.stale_redo, kept);
+        let counts = undo_counted(
+            &mut self.history,
+            self.stale_undo,
+            self.stale_redo,
+            is_recorded,
+        );
         self.stale_undo = counts.0;
         self.stale_redo = counts.1;
         Ok(())
@@ -506,11 +511,11 @@ impl OpenBook {
     ) -> Result<(), EditError>
         requires { IsReached (document_in self.now) }
         ensures document { Edits result (document_in self.old) (document_in self.new) (document_redo (document_in self.old)) }
-        ensures made { OnOk result (Makes (is_none_left self.old.history.redo) R.Fits (session_of self.old results.old) (session_of self.new results.new)) }
+        ensures output { OnOk result (Makes (is_none_left self.old.history.redo) R.Fits (session_of self.old results.old) (session_of self.new results.new)) }
         ensures err { OnErr result (results.new ≡ results.old) }
         ensures paused { results.new.paused ≡ results.old.paused }
     {
-        let kept = has_redo_step(&self.history, self.stale_redo);
+        let is_recorded = has_redo_step(&self.history, self.stale_redo);
         make_room(&mut self.history)?;
         let Some(list) = self.history.last_redo() else {
             return Ok(());
@@ -525,12 +530,17 @@ impl OpenBook {
             recalc,
             DiffType::Redo,
             list,
-            kept,
+            is_recorded,
         ) {
             self.queue.truncate(length);
             return Err(error);
         }
-        let counts = redo_counted(&mut self.history, self.stale_undo, self.stale_redo, kept);
+        let counts = redo_counted(
+            &mut self.history,
+            self.stale_undo,
+            self.stale_redo,
+            is_recorded,
+        );
         self.stale_undo = counts.0;
         self.stale_redo = counts.1;
         Ok(())
@@ -548,7 +558,7 @@ impl OpenBook {
         requires canonical { IsCanonicalList entry.now.list }
         requires rules { IsWellFormed self.now.workbook }
         ensures document { Edits result (document_in self.old) (document_in self.new) (document_received at entry.now (document_in self.old)) }
-        ensures made { OnOk result (IsMade R.Fits (session_of self.new results.new)) }
+        ensures output { OnOk result (IsMade R.Fits (session_of self.new results.new)) }
         ensures err { OnErr result (results.new ≡ results.old) }
         ensures paused { results.new.paused ≡ results.old.paused }
     {
@@ -580,7 +590,7 @@ impl OpenBook {
         requires canonical { IsCanonicalQueue queue.now }
         requires reached { IsReached (document_in self.now) }
         ensures next { (state : State) → StandsFor (document_in self.old) state → Leaves result (document_in self.new) queue.now state }
-        ensures made { LeavesMade result queue.now R.Fits (session_of self.old results.old) (session_of self.new results.new) }
+        ensures output { LeavesMade result queue.now R.Fits (session_of self.old results.old) (session_of self.new results.new) }
         ensures paused { results.new.paused ≡ results.old.paused }
     {
         for (index, entry) in queue.iter().enumerate() {

@@ -42,7 +42,7 @@ impl Exact for SheetProperties {
 
 /// What is listed of a sheet. `NoMemory` alone is an error.
 fn properties_of(sheet: &Worksheet) -> Result<SheetProperties, EditError>
-    ensures made { IfOk result (λ properties. properties ≡ properties_of sheet.now) }
+    ensures output { IfOk result (λ properties. properties ≡ properties_of sheet.now) }
     ensures only { IsOkUnless result NoMemory }
 {
     Ok(SheetProperties {
@@ -55,7 +55,7 @@ fn properties_of(sheet: &Worksheet) -> Result<SheetProperties, EditError>
 
 /// What is listed of sheets, in order.
 fn list_properties(alloc: Global, sheets: &[Worksheet]) -> Result<Items<SheetProperties>, EditError>
-    ensures made { IfOk result (λ list. list ≡ map properties_of sheets.now) }
+    ensures output { IfOk result (λ list. list ≡ map properties_of sheets.now) }
     ensures only { IsOkUnless result NoMemory }
 {
     let mut list = Items::empty(alloc);

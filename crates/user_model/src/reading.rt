@@ -124,7 +124,7 @@ pub(crate) fn rectangle_of(area: &Area) -> MergedCell
 
 /// A link to a target.
 pub(crate) fn link_to(alloc: Global, target: &str) -> Result<Link, EditError>
-    ensures made { IfOk result (λ link. link ≡ link_to target.now) }
+    ensures output { IfOk result (λ link. link ≡ link_to target.now) }
     ensures only { IsOkUnless result NoMemory }
 {
     Ok(Link {

@@ -326,7 +326,7 @@ impl<R: Recalc + Drop> UserModel<R> {
     fn make(&mut self, plan: Result<DiffList, EditError>, selected: usize) -> Result<(), EditError>
         requires { IsAnyPlan plan selected self.now.document }
         ensures next { (edit : AnyEdit) (state : State) → IsPlanOf edit plan selected self.old.document → StandsFor self.old.document state → Moves result self.new.document (edit_of edit state) }
-        ensures made { OnOk result (IsMade R.Fits self.new) }
+        ensures output { OnOk result (IsMade R.Fits self.new) }
         ensures err { OnErr result (self.new ≡ self.old) }
         ensures paused { self.new.paused ≡ self.old.paused }
     {
@@ -343,7 +343,7 @@ impl<R: Recalc + Drop> UserModel<R> {
     ) -> Result<(), EditError>
         requires { IsAnySeenPlan plan selected seen self.now.document }
         ensures next { (edit : AnyEdit) (state : State) → IsSeenPlan edit plan selected seen self.old.document → StandsFor self.old.document state → Moves result self.new.document (edit_of edit state) }
-        ensures made { OnOk result (IsMade R.Fits self.new) }
+        ensures output { OnOk result (IsMade R.Fits self.new) }
         ensures err { OnErr result (self.new ≡ self.old) }
         ensures paused { self.new.paused ≡ self.old.paused }
     {
@@ -364,7 +364,7 @@ impl<R: Recalc + Drop> UserModel<R> {
         requires canonical { IsCanonicalContent content }
         requires input { IsInput row column content }
         ensures next { Steps result self.old.document self.new.document (edit_of (Input sheet row column content feeds)) }
-        ensures made { OnOk result (IsMade R.Fits self.new) }
+        ensures output { OnOk result (IsMade R.Fits self.new) }
         ensures err { OnErr result (self.new ≡ self.old) }
         ensures paused { self.new.paused ≡ self.old.paused }
     {
@@ -409,7 +409,7 @@ impl<R: Recalc + Drop> UserModel<R> {
         value: &str,
     ) -> Result<(), EditError>
         ensures next { Steps result self.old.document self.new.document (text_typed sheet row column value.now) }
-        ensures made { OnOk result (IsMade R.Fits self.new) }
+        ensures output { OnOk result (IsMade R.Fits self.new) }
         ensures err { OnErr result (self.new ≡ self.old) }
         ensures paused { self.new.paused ≡ self.old.paused }
     {
@@ -435,7 +435,7 @@ impl<R: Recalc + Drop> UserModel<R> {
         requires canonical { IsTrue (has_canonical_numbers tree) }
         requires fits { IsTrue (fits_at (anchor_place area) (Array tree area.width area.height)) }
         ensures next { Steps result self.old.document self.new.document (edit_of (ArrayInput sheet area tree)) }
-        ensures made { OnOk result (IsMade R.Fits self.new) }
+        ensures output { OnOk result (IsMade R.Fits self.new) }
         ensures err { OnErr result (self.new ≡ self.old) }
         ensures paused { self.new.paused ≡ self.old.paused }
     {
@@ -469,7 +469,7 @@ impl<R: Recalc + Drop> UserModel<R> {
         formula: &str,
     ) -> Result<(), EditError>
         ensures next { Steps result self.old.document self.new.document (array_typed sheet (rectangle row column width height) formula.now) }
-        ensures made { OnOk result (IsMade R.Fits self.new) }
+        ensures output { OnOk result (IsMade R.Fits self.new) }
         ensures err { OnErr result (self.new ≡ self.old) }
         ensures paused { self.new.paused ≡ self.old.paused }
     {
@@ -496,7 +496,7 @@ impl<R: Recalc + Drop> UserModel<R> {
         link: Option<Link>,
     ) -> Result<(), EditError>
         ensures next { Steps result self.old.document self.new.document (edit_of (SetLink sheet row column link)) }
-        ensures made { OnOk result (IsMade R.Fits self.new) }
+        ensures output { OnOk result (IsMade R.Fits self.new) }
         ensures err { OnErr result (self.new ≡ self.old) }
         ensures paused { self.new.paused ≡ self.old.paused }
     {
@@ -524,7 +524,7 @@ impl<R: Recalc + Drop> UserModel<R> {
         target: &str,
     ) -> Result<(), EditError>
         ensures next { Steps result self.old.document self.new.document (edit_of (SetLink sheet row column (Some (link_to target.now)))) }
-        ensures made { OnOk result (IsMade R.Fits self.new) }
+        ensures output { OnOk result (IsMade R.Fits self.new) }
         ensures err { OnErr result (self.new ≡ self.old) }
         ensures paused { self.new.paused ≡ self.old.paused }
     {
@@ -542,7 +542,7 @@ impl<R: Recalc + Drop> UserModel<R> {
     /// ```
     pub fn delete_cell_link(&mut self, sheet: u32, row: i32, column: i32) -> Result<(), EditError>
         ensures next { Steps result self.old.document self.new.document (edit_of (SetLink sheet row column None)) }
-        ensures made { OnOk result (IsMade R.Fits self.new) }
+        ensures output { OnOk result (IsMade R.Fits self.new) }
         ensures err { OnErr result (self.new ≡ self.old) }
         ensures paused { self.new.paused ≡ self.old.paused }
     {
@@ -562,7 +562,7 @@ impl<R: Recalc + Drop> UserModel<R> {
     /// ```
     pub fn merge_cells(&mut self, area: &Area) -> Result<(), EditError>
         ensures next { Steps result self.old.document self.new.document (edit_of (Merge area.now.sheet (rectangle_of area.now))) }
-        ensures made { OnOk result (IsMade R.Fits self.new) }
+        ensures output { OnOk result (IsMade R.Fits self.new) }
         ensures err { OnErr result (self.new ≡ self.old) }
         ensures paused { self.new.paused ≡ self.old.paused }
     {
@@ -572,7 +572,7 @@ impl<R: Recalc + Drop> UserModel<R> {
     /// Merges the cells of a rectangle of the sheet at an index.
     fn merge(&mut self, sheet: u32, area: MergedCell) -> Result<(), EditError>
         ensures next { Steps result self.old.document self.new.document (edit_of (Merge sheet area)) }
-        ensures made { OnOk result (IsMade R.Fits self.new) }
+        ensures output { OnOk result (IsMade R.Fits self.new) }
         ensures err { OnErr result (self.new ≡ self.old) }
         ensures paused { self.new.paused ≡ self.old.paused }
     {
@@ -594,7 +594,7 @@ impl<R: Recalc + Drop> UserModel<R> {
     /// ```
     pub fn unmerge_cells(&mut self, sheet: u32, row: i32, column: i32) -> Result<(), EditError>
         ensures next { Steps result self.old.document self.new.document (edit_of (Unmerge sheet row column)) }
-        ensures made { OnOk result (IsMade R.Fits self.new) }
+        ensures output { OnOk result (IsMade R.Fits self.new) }
         ensures err { OnErr result (self.new ≡ self.old) }
         ensures paused { self.new.paused ≡ self.old.paused }
     {
@@ -616,7 +616,7 @@ impl<R: Recalc + Drop> UserModel<R> {
     /// ```
     pub fn undo(&mut self) -> Result<(), EditError>
         ensures next { OnStates self.old.document (λ state. Turns result self.new.document (undo_of state)) }
-        ensures made { OnOk result (Makes (is_none_left self.old.document.undo) R.Fits self.old self.new) }
+        ensures output { OnOk result (Makes (is_none_left self.old.document.undo) R.Fits self.old self.new) }
         ensures err { OnErr result (self.new ≡ self.old) }
         ensures paused { self.new.paused ≡ self.old.paused }
     {
@@ -632,7 +632,7 @@ impl<R: Recalc + Drop> UserModel<R> {
     /// ```
     pub fn redo(&mut self) -> Result<(), EditError>
         ensures next { OnStates self.old.document (λ state. Turns result self.new.document (redo_of state)) }
-        ensures made { OnOk result (Makes (is_none_left self.old.document.redo) R.Fits self.old self.new) }
+        ensures output { OnOk result (Makes (is_none_left self.old.document.redo) R.Fits self.old self.new) }
         ensures err { OnErr result (self.new ≡ self.old) }
         ensures paused { self.new.paused ≡ self.old.paused }
     {
@@ -680,7 +680,7 @@ impl<R: Recalc + Drop> UserModel<R> {
         ensures carried { WhereCarried bytes.now self.old.document.book (λ later. IsOkUnless result NoMemory) }
         ensures unspelled { IsNoQueue bytes.now → Edits result self.old self.new (Err ParseDiffs) }
         ensures parsed { result ≡ Err ParseDiffs → IsNoQueue bytes.now }
-        ensures made { WhereSpelled bytes.now (λ entries. LeavesMade result entries R.Fits self.old self.new) }
+        ensures output { WhereSpelled bytes.now (λ entries. LeavesMade result entries R.Fits self.old self.new) }
         ensures made_or_same { IsMade R.Fits self.new ⊎ (self.new ≡ self.old) }
         ensures paused { self.new.paused ≡ self.old.paused }
     {

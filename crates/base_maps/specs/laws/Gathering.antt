@@ -78,16 +78,16 @@ module _ {K X Y : Type 0} (R : K → K → Ordering) (total : IsTotalOrder R) (e
   none_made q None = refl
   none_made q (Some p) = refl
 
-  find-made : (es : List (K × X)) → is_sorted R es ≡ true → (q : K) → find R q (filter_map (entry_made to make) es) ≡ made_at es q (from q)
-  find-made [] sorted q = none_made q (from q)
-  find-made (e ∷ es) sorted q = by_target e es sorted q (find-made es (sorted_rest R e es sorted) q) (to e.0) refl
+  find-output : (es : List (K × X)) → is_sorted R es ≡ true → (q : K) → find R q (filter_map (entry_made to make) es) ≡ made_at es q (from q)
+  find-output [] sorted q = none_made q (from q)
+  find-output (e ∷ es) sorted q = by_target e es sorted q (find-output es (sorted_rest R e es sorted) q) (to e.0) refl
 
   -- a gathered map has at a key what the entry makes whose key goes there
   pub get-gathered : (m : FinMap R X) (q : K) → get (gathered to make m) q ≡ if_there (from q) (λ p. if_there (get m p) (make p q))
   unfolding gathered
   get-gathered m q =
       get-from_entries total (filter_map (entry_made to make) (entries m)) q
-      ∙ find-made (entries m) (test_of _ (entries_sorted m)) q
+      ∙ find-output (entries m) (test_of _ (entries_sorted m)) q
       ∙ at_key (from q)
     where
       at_key : (s : Option K) → made_at (entries m) q s ≡ if_there s (λ p. if_there (get m p) (make p q))
@@ -110,7 +110,7 @@ module _ {K X Y : Type 0} (R : K → K → Ordering) (total : IsTotalOrder R) (e
   -- the key that an entry goes to has nothing made there by the entries before it
   free_key : (ys : List (K × X)) (e : K × X) (zs : List (K × X)) → is_sorted R (ys ++ e ∷ zs) ≡ true → (q : K) → to e.0 ≡ Some q → find R q (filter_map (entry_made to make) ys) ≡ None
   free_key ys e zs sorted q there =
-      find-made ys (sorted_front R ys (e ∷ zs) sorted) q
+      find-output ys (sorted_front R ys (e ∷ zs) sorted) q
       ∙ ap (made_at ys q) (i.back e.0 q there)
       ∙ ap (λ v. if_there v (make e.0 q)) (not_before R total exact ys e zs sorted)
 

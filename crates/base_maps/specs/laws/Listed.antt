@@ -16,10 +16,10 @@ use Rattle.base_maps.specs.laws.Turns.{turn_seen, turn_held}
 
 -- the entries seen and those left are all, and those seen have made the list, under keys that lie inside
 pub record Listed {A K X Y : Type 0} {R : K → K → Ordering} (Inside : K → Type 0) (shows : A → K × X) (to : K → Option K) (make : K → K → X → Option Y)
-    (m : FinMap R X) (seen : List A) (left : List (K × X)) (made : List (K × Y)) : Type 0 where
+    (m : FinMap R X) (seen : List A) (left : List (K × X)) (output : List (K × Y)) : Type 0 where
   pub all : map shows seen ++ left ≡ entries m
-  pub now : made ≡ filter_map (entry_made to make) (map shows seen)
-  pub inside : All (λ (entry : K × Y). Inside entry.0) made
+  pub now : output ≡ filter_map (entry_made to make) (map shows seen)
+  pub inside : All (λ (entry : K × Y). Inside entry.0) output
 
 module _ {K X Y : Type 0} (Inside : K → Type 0) (make : K → K → X → Option Y) where
   abbrev KeyLies : K × Y → Type 0

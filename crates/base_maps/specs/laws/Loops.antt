@@ -12,14 +12,14 @@ use Rattle.base_maps.specs.laws.Gathering.{with_made}
 use Rattle.base_maps.specs.laws.Turns.{turn_seen, turn_held, turn_made, turn_laid, end_made, end_laid}
 
 -- the entries seen and those left are all, and the map has what those seen have made
-pub record Made {A K X Y : Type 0} {R : K → K → Ordering} (shows : A → K × X) (to : K → Option K) (make : K → K → X → Option Y) (m : FinMap R X) (seen : List A) (left : List (K × X)) (made : FinMap R Y) : Type 0 where
+pub record Made {A K X Y : Type 0} {R : K → K → Ordering} (shows : A → K × X) (to : K → Option K) (make : K → K → X → Option Y) (m : FinMap R X) (seen : List A) (left : List (K × X)) (output : FinMap R Y) : Type 0 where
   pub all : map shows seen ++ left ≡ entries m
-  pub now : made ≡ from_entries (filter_map (entry_made to make) (map shows seen))
+  pub now : output ≡ from_entries (filter_map (entry_made to make) (map shows seen))
 
 -- the entries seen and those left are all, and the map has those seen in place of its own
-pub record Laid {A K X : Type 0} {R : K → K → Ordering} (shows : A → K × X) (m own : FinMap R X) (seen : List A) (left : List (K × X)) (made : FinMap R X) : Type 0 where
+pub record Laid {A K X : Type 0} {R : K → K → Ordering} (shows : A → K × X) (m own : FinMap R X) (seen : List A) (left : List (K × X)) (output : FinMap R X) : Type 0 where
   pub all : map shows seen ++ left ≡ entries m
-  pub now : made ≡ overlaid (from_entries (map shows seen)) own
+  pub now : output ≡ overlaid (from_entries (map shows seen)) own
 
 module _ {A K X : Type 0} {R : K → K → Ordering} (total : IsTotalOrder R) (exact : CmpEqualImpliesEq R) {shows : A → K × X} {m : FinMap R X} {seen : List A} {left : List (K × X)} where
   module _ {Y : Type 0} {to : K → Option K} {make : K → K → X → Option Y} {before : FinMap R Y} (so_far : Made shows to make m seen left before) where

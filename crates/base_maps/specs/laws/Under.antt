@@ -41,7 +41,7 @@ module _ {P K : Type 0} {Q : P → P → Ordering} {R : K → K → Ordering} (t
 
   module _ {X : Type 0} where
     put_at : (id : ℕ) (es : List (P × X)) → is_sorted Q es ≡ true → (own : FinMap R X) (n : ℕ) (p : P) →
-        get (fold (λ made (e : P × X). insert made (under id e.0) e.1) own es) (under n p) ≡ option_or (cond (id == n) (find Q p es) None) (get own (under n p))
+        get (fold (λ output (e : P × X). insert output (under id e.0) e.1) own es) (under n p) ≡ option_or (cond (id == n) (find Q p es) None) (get own (under n p))
     put_at id [] sorted own n p = elim (id == n) as (λ b. get own (under n p) ≡ option_or (cond b None None) (get own (under n p))) [ true ↦ refl | false ↦ refl ]
     put_at id (e ∷ es) sorted own n p =
         put_at id es (sorted_rest Q e es sorted) (insert own (under id e.0) e.1) n p
@@ -75,7 +75,7 @@ module _ {P K : Type 0} {Q : P → P → Ordering} {R : K → K → Ordering} (t
 
     module _ {S : Type 0} (id_of : S → ℕ) (map_of : S → FinMap Q X) where
       all_at : (items : List S) (own : FinMap R X) → IsDistinct ◌==◌ (map id_of items) → (n : ℕ) (p : P) →
-          get (fold (λ made item. put_under under (id_of item) (map_of item) made) own items) (under n p) ≡ option_or (if_there (first (λ item. id_of item == n) items) (λ item. get (map_of item) p)) (get own (under n p))
+          get (fold (λ output item. put_under under (id_of item) (map_of item) output) own items) (under n p) ≡ option_or (if_there (first (λ item. id_of item == n) items) (λ item. get (map_of item) p)) (get own (under n p))
       unfolding IsDistinct
       all_at [] own distinct n p = refl
       all_at (item ∷ items) own distinct n p =

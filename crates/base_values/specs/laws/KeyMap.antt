@@ -28,15 +28,15 @@ module _ {K X : Type 0} (R : K → K → Ordering) (total : IsTotalOrder R) (exa
   find-lookup (e ∷ es) q = ap (cond (is_at (R q) e.0) (Some e.1)) (find-lookup es q)
 
   -- what the map that the entries make has at a key
-  pub get-made : (es : List (K × X)) (q : K) → get (from_entries {R = R} es) q ≡ lookup (is_at (R q)) es
-  get-made es q = get-from_entries total es q ∙ find-lookup es q
+  pub get-model : (es : List (K × X)) (q : K) → get (from_entries {R = R} es) q ≡ lookup (is_at (R q)) es
+  get-model es q = get-from_entries total es q ∙ find-lookup es q
 
   at_key : (w : Option X) (es : List (K × X)) (key q : K) → get (with_entry (from_entries {R = R} es) key w) q ≡ cond (is_at (R key) q) w (lookup (is_at (R q)) es)
   at_key None es key q =
-      get-remove total (from_entries es) key q ∙ ap (cond (is_at (R q) key) None) (get-made es q)
+      get-remove total (from_entries es) key q ∙ ap (cond (is_at (R q) key) None) (get-model es q)
       ∙ ap (λ b. cond b None (lookup (is_at (R q)) es)) ((eq_by_cmp_equiv total).symm q key)
   at_key (Some v) es key q =
-      get-insert total (from_entries es) key v q ∙ ap (cond (is_at (R q) key) (Some v)) (get-made es q)
+      get-insert total (from_entries es) key v q ∙ ap (cond (is_at (R q) key) (Some v)) (get-model es q)
       ∙ ap (λ b. cond b (Some v) (lookup (is_at (R q)) es)) ((eq_by_cmp_equiv total).symm q key)
 
   no_entries : (es : List (K × X)) → length es ≡ 0 → es ≡ []
@@ -49,16 +49,16 @@ module _ {K X : Type 0} (R : K → K → Ordering) (total : IsTotalOrder R) (exa
   first_place e (f ∷ fs) h = ap (λ o. by_order o (e ∷ f ∷ fs) ((f.0, e.1) ∷ fs) (f ∷ fin.put R e.0 e.1 fs)) h.0.0
 
   -- the entries of the map that entries in order make
-  pub entries-made : (es : List (K × X)) → IsStrictlySortedBy R (keys_of es) → entries (from_entries {R = R} es) ≡ es
+  pub entries-model : (es : List (K × X)) → IsStrictlySortedBy R (keys_of es) → entries (from_entries {R = R} es) ≡ es
   unfolding IsStrictlySortedBy
-  entries-made [] h = no_entries _ (sym (len-entries (empty {X = X} {R = R})) ∙ len-empty R X)
-  entries-made (e ∷ es) h = entries-insert total (from_entries es) e.0 e.1 ∙ ap (fin.put R e.0 e.1) (entries-made es h.1) ∙ first_place e es h
+  entries-model [] h = no_entries _ (sym (len-entries (empty {X = X} {R = R})) ∙ len-empty R X)
+  entries-model (e ∷ es) h = entries-insert total (from_entries es) e.0 e.1 ∙ ap (fin.put R e.0 e.1) (entries-model es h.1) ∙ first_place e es h
 
   -- entries that differ at one key make maps that differ there
-  pub with_entry-made : (es fs : List (K × X)) (key : K) (w : Option X)
+  pub with_entry-model : (es fs : List (K × X)) (key : K) (w : Option X)
       → ((q : K) → lookup (is_at (R q)) fs ≡ cond (is_at (R key) q) w (lookup (is_at (R q)) es))
       → from_entries {R = R} fs ≡ with_entry (from_entries es) key w
-  with_entry-made es fs key w h = same_map total exact _ _ (λ q. get-made fs q ∙ h q ∙ sym (at_key w es key q))
+  with_entry-model es fs key w h = same_map total exact _ _ (λ q. get-model fs q ∙ h q ∙ sym (at_key w es key q))
 
   -- what the map has at a key into which entries are put one after another
   get-put : (m : FinMap R X) (es : List (K × X)) (f : K → Option X) → ((q : K) → get m q ≡ f q) → (q : K) → get (with_entries m es) q ≡ update_all (eq_by_cmp R) f es q
@@ -70,7 +70,7 @@ module _ {K X : Type 0} (R : K → K → Ordering) (total : IsTotalOrder R) (exa
 
   -- the map that is made of entries in one go has them put in one after another
   pub made_of_entries : (es : List (K × X)) (n : BTreeMap K X) → IsFromIterResult R es n → from_entries {R = R} n.entries ≡ with_entries empty es
-  made_of_entries es n h = same_map total exact _ _ (λ q. get-made n.entries q ∙ h.0 q ∙ sym (get-put empty es (λ _. None) (get-empty R) q))
+  made_of_entries es n h = same_map total exact _ _ (λ q. get-model n.entries q ∙ h.0 q ∙ sym (get-put empty es (λ _. None) (get-empty R) q))
 
   -- and its keys are theirs
   pub inside_of_entries : (P : K → Type 0) (es : List (K × X)) (n : BTreeMap K X) → All (λ e. P e.0) es → IsFromIterResult R es n → IsInside R P n
@@ -93,22 +93,22 @@ module _ {K X : Type 0} {R : K → K → Ordering} {D : K → K → Bool} {E : X
       (pointwise_decides (λ p q. Decides-like _ (λ h i. (h.0 i, h.1 i)) (λ e. (ap (λ x. x.0) e, ap (λ x. x.1) e)) (Decides-and _ _ (one p.0 q.0) (same p.1 q.1))) (entries m) (entries n))
 
 -- equality of what stands for finite maps is told by those
-pub same_seen_decides : {K X M : Type 0} {R : K → K → Ordering} {D : K → K → Bool} {E : X → X → Bool} (made : FinMap R X → M) (seen : M → FinMap R X) → ((map : M) → made (seen map) ≡ map)
+pub same_seen_decides : {K X M : Type 0} {R : K → K → Ordering} {D : K → K → Bool} {E : X → X → Bool} (model : FinMap R X → M) (seen : M → FinMap R X) → ((map : M) → model (seen map) ≡ map)
     → ((a b : K) → Decides (D a b) (a ≡ b)) → ((a b : X) → Decides (E a b) (a ≡ b)) → (a b : M) → Decides (same_entries D E (seen a) (seen b)) (a ≡ b)
-same_seen_decides made seen made_seen one same a b = Decides-like _ (λ e. sym (made_seen a) ∙ ap made e ∙ made_seen b) (ap seen) (same_entries_decides one same (seen a) (seen b))
+same_seen_decides model seen model_seen one same a b = Decides-like _ (λ e. sym (model_seen a) ∙ ap model e ∙ model_seen b) (ap seen) (same_entries_decides one same (seen a) (seen b))
 
 pub IsOrdered-same : {K X : Type 0} (R : K → K → Ordering) (m n : BTreeMap K X) → n.entries ≡ m.entries → IsOrdered R m → IsOrdered R n
 IsOrdered-same R m n e h = subst (λ es. IsStrictlySortedBy R (keys_of es)) (sym e) h
 
 module _ {K X : Type 0} {R : K → K → Ordering} where
   module _ (total : IsTotalOrder R) (exact : CmpEqualImpliesEq R) where
-    pub same_entries-made : (D : K → K → Bool) (E : X → X → Bool) (m n : BTreeMap K X) → IsOrdered R m → IsOrdered R n
+    pub same_entries-model : (D : K → K → Bool) (E : X → X → Bool) (m n : BTreeMap K X) → IsOrdered R m → IsOrdered R n
         → same_entries D E {R = R} (from_entries m.entries) (from_entries n.entries) ≡ pointwise (same_entry D E) m.entries n.entries
-    same_entries-made D E m n h k = λ i. pointwise (same_entry D E) (entries-made R total exact m.entries h i) (entries-made R total exact n.entries k i)
+    same_entries-model D E m n h k = λ i. pointwise (same_entry D E) (entries-model R total exact m.entries h i) (entries-model R total exact n.entries k i)
 
     -- the finite map of a map has its keys
-    pub keys-made : (m : BTreeMap K X) → IsOrdered R m → fin.keys (from_entries {R = R} m.entries) ≡ keys m
-    keys-made m h = ap (map (λ e. e.0)) (entries-made R total exact m.entries h)
+    pub keys-model : (m : BTreeMap K X) → IsOrdered R m → fin.keys (from_entries {R = R} m.entries) ≡ keys m
+    keys-model m h = ap (map (λ e. e.0)) (entries-model R total exact m.entries h)
 
 pub IsInside-same : {K X : Type 0} {R : K → K → Ordering} {P : K → Type 0} (m n : BTreeMap K X) → n.entries ≡ m.entries → IsInside R P m → IsInside R P n
 IsInside-same {R = R} {P = P} m n e h = record {

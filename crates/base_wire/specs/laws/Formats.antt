@@ -27,16 +27,16 @@ check_format law test = record { again = check_again law.again test; spelled = c
 
 module _ {A B : Type 0} {F : A → Type 0} {G : B → Type 0} {s : A → List ℕ} {r : Reader A} where
   made_again : ReadsAgain F s r → (f : A → B) (g : B → A) → ((y : B) → G y → (f (g y) ≡ y) × F (g y)) → ReadsAgain G (λ y. s (g y)) (map_at f r)
-  made_again law f g made = record {
-    again = λ y rest fits. let p = made y fits in rw (law.again (g y) rest p.1) (ap (λ (x : B). Ok (x, rest)) p.0);
+  made_again law f g output = record {
+    again = λ y rest fits. let p = output y fits in rw (law.again (g y) rest p.1) (ap (λ (x : B). Ok (x, rest)) p.0);
   }
 
   made_spelled : ReadsSpelled F s r → (f : A → B) (g : B → A) → ((x : A) → F x → (g (f x) ≡ x) × G (f x)) → ReadsSpelled G (λ y. s (g y)) (map_at f r)
-  made_spelled law f g made = record {
+  made_spelled law f g output = record {
     spelled = λ bytes x small e.
         let a = bind_ok (r bytes) (λ y. Ok (f y.0, y.1)) x e in
         let one = law.spelled bytes a.0 small a.1 in
-        let p = made a.0.0 one.fits in
+        let p = output a.0.0 one.fits in
         let value : B × List ℕ = (f a.0.0, a.0.1) in
         subst (λ (z : B × List ℕ). IsSpelled G (λ y. s (g y)) bytes z.0 z.1) (ok_is value x a.2)
         (record { parts = one.parts ∙ ap (λ (v : A). s v ++ a.0.1) (sym p.0); fits = p.1; left = one.left });

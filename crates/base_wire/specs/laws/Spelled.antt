@@ -75,8 +75,8 @@ module _ {A B : Type 0} {F : A → Type 0} {G : B → Type 0} {s : A → List �
         let b = bind_ok (q a.0.1) (λ z. Ok ((a.0.0, z.0), z.1)) x a.2 in
         let one = first.spelled bytes a.0 small a.1 in
         let two = second.spelled a.0.1 b.0 one.left b.1 in
-        let made : (A × B) × List ℕ = ((a.0.0, b.0.0), b.0.1) in
-        subst (λ (z : (A × B) × List ℕ). IsSpelled (Both F G) (spell_both s t) bytes z.0 z.1) (ok_is made x b.2)
+        let output : (A × B) × List ℕ = ((a.0.0, b.0.0), b.0.1) in
+        subst (λ (z : (A × B) × List ℕ). IsSpelled (Both F G) (spell_both s t) bytes z.0 z.1) (ok_is output x b.2)
         (record {
           parts = one.parts ∙ ap (λ (w : List ℕ). s a.0.0 ++ w) two.parts ∙ sym (append_assoc (s a.0.0) (t b.0.0) b.0.1);
           fits = (one.fits, two.fits);
@@ -91,8 +91,8 @@ module _ {A B : Type 0} {F : A → Type 0} {s : A → List ℕ} {r : Reader A} w
     spelled = λ bytes x small e.
         let a = bind_ok (r bytes) (λ y. Ok (f y.0, y.1)) x e in
         let one = law.spelled bytes a.0 small a.1 in
-        let made : B × List ℕ = (f a.0.0, a.0.1) in
-        subst (λ (z : B × List ℕ). IsSpelled (λ y. F (g y)) (λ y. s (g y)) bytes z.0 z.1) (ok_is made x a.2)
+        let output : B × List ℕ = (f a.0.0, a.0.1) in
+        subst (λ (z : B × List ℕ). IsSpelled (λ y. F (g y)) (λ y. s (g y)) bytes z.0 z.1) (ok_is output x a.2)
         (record {
           parts = one.parts ∙ ap (λ (v : A). s v ++ a.0.1) (sym (inverse a.0.0));
           fits = subst F (sym (inverse a.0.0)) one.fits;
@@ -152,8 +152,8 @@ coded_spelled {A} code_of value_of found = record {
       let b = bind_ok (ok_or ParseDiffs (value_of a.0.0)) (λ value. Ok (value, a.0.1)) x a.2 in
       let code = found a.0.0 b.0 (some_value _ _ b.1) in
       let one = byte_spelled.spelled bytes a.0 small a.1 in
-      let made : A × List ℕ = (b.0, a.0.1) in
-      subst (λ (z : A × List ℕ). IsSpelled Any (spell_code code_of) bytes z.0 z.1) (ok_is made x b.2)
+      let output : A × List ℕ = (b.0, a.0.1) in
+      subst (λ (z : A × List ℕ). IsSpelled Any (spell_code code_of) bytes z.0 z.1) (ok_is output x b.2)
       (record { parts = one.parts ∙ ap (λ (k : ℕ). k ∷ a.0.1) (sym code); fits = tt; left = one.left });
 }
 
@@ -169,8 +169,8 @@ tag_map {A} {B} {F} {s} {r} law f Fits spell tag form fit = record {
   tagged = λ bytes x small e.
       let a = bind_ok (r bytes) (λ y. Ok (f y.0, y.1)) x e in
       let one = law.spelled bytes a.0 small a.1 in
-      let made : B × List ℕ = (f a.0.0, a.0.1) in
-      subst (λ (z : B × List ℕ). IsSpelled Fits spell (tag ∷ bytes) z.0 z.1) (ok_is made x a.2)
+      let output : B × List ℕ = (f a.0.0, a.0.1) in
+      subst (λ (z : B × List ℕ). IsSpelled Fits spell (tag ∷ bytes) z.0 z.1) (ok_is output x a.2)
       (record {
         parts = ap (λ (w : List ℕ). tag ∷ w) one.parts ∙ ap (λ (w : List ℕ). w ++ a.0.1) (sym (form a.0.0));
         fits = fit a.0.0 one.fits;
@@ -181,8 +181,8 @@ tag_map {A} {B} {F} {s} {r} law f Fits spell tag form fit = record {
 pub tag_plain : {A : Type 0} (Fits : A → Type 0) (spell : A → List ℕ) (tag : ℕ) (x : A) → spell x ≡ tag ∷ [] → Fits x → TagSpelled Fits spell tag (plain x)
 tag_plain {A} Fits spell tag x form fit = record {
   tagged = λ bytes y small e.
-      let made : A × List ℕ = (x, bytes) in
-      subst (λ (z : A × List ℕ). IsSpelled Fits spell (tag ∷ bytes) z.0 z.1) (ok_is made y e)
+      let output : A × List ℕ = (x, bytes) in
+      subst (λ (z : A × List ℕ). IsSpelled Fits spell (tag ∷ bytes) z.0 z.1) (ok_is output y e)
       (record { parts = ap (λ (w : List ℕ). w ++ bytes) (sym form); fits = fit; left = small });
 }
 
@@ -252,8 +252,8 @@ signed_spelled {w} again = record {
   spelled = λ bytes x small e.
       let a = bind_ok (number_at w bytes) (λ n. Ok (cast_signed w n.0, n.1)) x e in
       let one = (number_spelled again).spelled bytes a.0 small a.1 in
-      let made : ℤ × List ℕ = (cast_signed w a.0.0, a.0.1) in
-      subst (λ (z : ℤ × List ℕ). IsSpelled (FitsSigned w) (spell_signed w) bytes z.0 z.1) (ok_is made x a.2)
+      let output : ℤ × List ℕ = (cast_signed w a.0.0, a.0.1) in
+      subst (λ (z : ℤ × List ℕ). IsSpelled (FitsSigned w) (spell_signed w) bytes z.0 z.1) (ok_is output x a.2)
       (record {
         parts = one.parts ∙ ap (λ (n : ℕ). to_be_bytes w n ++ a.0.1) (sym (of_z-to_z w a.0.0 one.fits));
         fits = sfits_to_z (record { fits = one.fits });
@@ -299,8 +299,8 @@ module _ {A : Type 0} {F : A → Type 0} {s : A → List ℕ} {r : Reader A} whe
       let b = bind_ok (many_at r n a.0.1) (λ others. Ok (a.0.0 ∷ others.0, others.1)) x a.2 in
       let one = law.spelled bytes a.0 small a.1 in
       let two = many_spelled law n a.0.1 b.0 one.left b.1 in
-      let made : List A × List ℕ = (a.0.0 ∷ b.0.0, b.0.1) in
-      subst (λ (z : List A × List ℕ). IsSpelled (λ xs. (length xs ≡ suc n) × AllByRecursion F xs) (flat_map s) bytes z.0 z.1) (ok_is made x b.2)
+      let output : List A × List ℕ = (a.0.0 ∷ b.0.0, b.0.1) in
+      subst (λ (z : List A × List ℕ). IsSpelled (λ xs. (length xs ≡ suc n) × AllByRecursion F xs) (flat_map s) bytes z.0 z.1) (ok_is output x b.2)
       (record {
         parts = one.parts ∙ ap (λ (w : List ℕ). s a.0.0 ++ w) two.parts ∙ sym (append_assoc (s a.0.0) (flat_map s b.0.0) b.0.1);
         fits = (ap suc two.fits.0, (one.fits, two.fits.1));

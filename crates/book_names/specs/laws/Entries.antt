@@ -34,7 +34,7 @@ module _ {K X Y : Type 0} (R : K → K → Ordering) (f : K → X → Y) where
 
   each_made : (es : List (K × X)) → filter_map (entry_made Some (λ p q x. Some (f q x))) es ≡ map entry_changed es
   each_made [] = refl
-  each_made (e ∷ es) = ap (λ made. (e.0, f e.0 e.1) ∷ made) (each_made es)
+  each_made (e ∷ es) = ap (λ output. (e.0, f e.0 e.1) ∷ output) (each_made es)
 
   module _ (total : IsTotalOrder R) (exact : CmpEqualImpliesEq R) (m : FinMap R X) where
     -- what it has at each key

@@ -163,11 +163,11 @@ module _ (r : MergedCell) (tree : Node) (sheet : Sheet) where
   pub array_record : IsSheetRecord (λ s. with_array s r tree) sheet array_changes
   array_record = record { ordered = in_order same; here = here; elsewhere = elsewhere }
 
-  made : (b : Bool)
+  output : (b : Bool)
       → map change_of (cond b [] (CellDiff sheet.id place (get sheet.cells place) entry ∷ []) ++ blank_diffs r sheet) ≡ map Some (front b ++ blank_changes r sheet)
-  made true = made_changes r sheet.id (entries sheet.cells)
-  made false = ap (λ cs. Some (key, (old, new)) ∷ cs) (made_changes r sheet.id (entries sheet.cells))
+  output true = made_changes r sheet.id (entries sheet.cells)
+  output false = ap (λ cs. Some (key, (old, new)) ∷ cs) (made_changes r sheet.id (entries sheet.cells))
 
   -- and those of its diffs
   pub array_made : map change_of (array_diffs r tree sheet) ≡ map Some array_changes
-  array_made = made same
+  array_made = output same

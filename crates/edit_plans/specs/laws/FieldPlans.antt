@@ -68,7 +68,7 @@ module _ (w : Book) (index : ℕ) (value : SheetField) (may : may_have value ≡
   pub field_planned : (result : Result (List Diff) EditError) → IfOk result (λ list. list ≡ field_change sheet value) → IfOk result IsCanonicalList
       → IsOkUnless result NoMemory
       → Plans result w (field_set index value w)
-  field_planned result made kept only = plan_made w after (field_set index value w) result field_expected only (plan result made kept)
+  field_planned result output kept only = plan_made w after (field_set index value w) result field_expected only (plan result output kept)
     where
       plan : (r : Result (List Diff) EditError) → IfOk r (λ list. list ≡ field_change sheet value) → IfOk r IsCanonicalList → IfOk r (λ list. IsPlan w list after)
       plan (Ok list) is all = field_plan list is all

@@ -204,8 +204,8 @@ module _ (axis : LineAxis) (area : Area) (to : ℤ) (language : Language) (w : B
       → (result : Result (List Diff) EditError) → IfOk result (λ list. list ≡ fill_record sheet plan) → IfOk result IsCanonicalList → IsOkUnless result NoMemory
       → Plans result w (fill_made area.sheet axis (source_of area) to language w)
   unfolding fill_planned fill_made
-  fill_taken rules sheet at plan returns result made kept only =
-      plan_made w after (fill_made area.sheet axis (source_of area) to language w) result expected only (each result made kept)
+  fill_taken rules sheet at plan returns result output kept only =
+      plan_made w after (fill_made area.sheet axis (source_of area) to language w) result expected only (each result output kept)
     where
       after : Book
       after = with_sheet w area.sheet (with_fill sheet plan)

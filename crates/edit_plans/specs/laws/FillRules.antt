@@ -459,11 +459,11 @@ module _ (a : Along) (is : IsAxis a) (f : FillRange) (at : IsBeside a f) (sheet 
   abbrev kept : List MergedCell
   kept = filter (λ m. not (meets m f.target)) sheet.merges
 
-  abbrev made : List MergedCell
-  made = tiles a f (filter (is_repeated f) sheet.merges) (repetitions a f)
+  abbrev output : List MergedCell
+  output = tiles a f (filter (is_repeated f) sheet.merges) (repetitions a f)
 
   module _ (P : MergedCell → Type 0) (own : AllByRecursion P sheet.merges) where
-    made_are : AllByRecursion (IsTile P (repetitions a f)) made
+    made_are : AllByRecursion (IsTile P (repetitions a f)) output
     made_are = all_tiles P (filter (is_repeated f) sheet.merges) (sources P sheet.merges old_merges.merges free.cut own) (repetitions a f)
 
     -- a kept merge does not meet the target
@@ -475,34 +475,34 @@ module _ (a : Along) (is : IsAxis a) (f : FillRange) (at : IsBeside a f) (sheet 
   no_more (m ∷ ms) = (tt, no_more ms)
 
   merges_are : list_all is_merge next.merges ≡ true
-  merges_are = tests_pass is_merge (kept ++ made) (all_joined (λ m. is_merge m ≡ true) kept made
+  merges_are = tests_pass is_merge (kept ++ output) (all_joined (λ m. is_merge m ≡ true) kept output
       (all_from (λ m. (meets m f.target ≡ false) × (is_merge m ≡ true)) (λ m. is_merge m ≡ true) (λ m p. p.1) kept
       (kept_are (λ m. is_merge m ≡ true) (listed is_merge sheet.merges old_merges.merges)))
-      (all_from (IsTile Any (repetitions a f)) (λ t. is_merge t ≡ true) (tile_merge Any) made (made_are Any (no_more sheet.merges))))
+      (all_from (IsTile Any (repetitions a f)) (λ t. is_merge t ≡ true) (tile_merge Any) output (made_are Any (no_more sheet.merges))))
 
-  kept_away : (m : MergedCell) → meets m f.target ≡ false → list_any (meets m) made ≡ false
-  kept_away m out = none_pass (meets m) made (all_from (IsTile Any (repetitions a f)) (λ t. meets m t ≡ false)
+  kept_away : (m : MergedCell) → meets m f.target ≡ false → list_any (meets m) output ≡ false
+  kept_away m out = none_pass (meets m) output (all_from (IsTile Any (repetitions a f)) (λ t. meets m t ≡ false)
       (λ t s. no_longer (meets m t) (λ met. apart_values (meets m f.target) (meets_wider m t f.target (tile_within Any t s) met) out))
-      made (made_are Any (no_more sheet.merges)))
+      output (made_are Any (no_more sheet.merges)))
 
   merges_apart : are_apart next.merges ≡ true
   merges_apart =
-      distinct_joined meets kept made
+      distinct_joined meets kept output
       (distinct_left meets (λ m. not (meets m f.target)) sheet.merges old_merges.apart)
       (tiles_apart (filter (is_repeated f) sheet.merges) (sources Any sheet.merges old_merges.merges free.cut (no_more sheet.merges))
       (distinct_left meets (is_repeated f) sheet.merges old_merges.apart) (repetitions a f))
-      (all_from (λ m. (meets m f.target ≡ false) × Any m) (λ m. list_any (meets m) made ≡ false) (λ m p. kept_away m p.0) kept
+      (all_from (λ m. (meets m f.target ≡ false) × Any m) (λ m. list_any (meets m) output ≡ false) (λ m p. kept_away m p.0) kept
       (kept_are Any (no_more sheet.merges)))
 
   arrays_away : (q : Position) (r : MergedCell) → large_array_in next q ≡ Some r → meets_any next.merges r ≡ false
   arrays_away q r there =
       let out = array_apart q r there in
-      none_pass (meets r) (kept ++ made) (all_joined (λ m. meets r m ≡ false) kept made
+      none_pass (meets r) (kept ++ output) (all_joined (λ m. meets r m ≡ false) kept output
       (all_from (λ m. (meets m f.target ≡ false) × (meets r m ≡ false)) (λ m. meets r m ≡ false) (λ m p. p.1) kept
       (kept_are (λ m. meets r m ≡ false) (none_listed (meets r) sheet.merges (old_merges.arrays q r (large_stood q r there).was))))
       (all_from (IsTile Any (repetitions a f)) (λ t. meets r t ≡ false)
       (λ t s. no_longer (meets r t) (λ met. apart_values (meets r f.target) (meets_wider r t f.target (tile_within Any t s) met) out))
-      made (made_are Any (no_more sheet.merges))))
+      output (made_are Any (no_more sheet.merges))))
 
   merges_stay : have_merges next ≡ true
   merges_stay = have_merges_from next (record { merges = merges_are; apart = merges_apart; arrays = arrays_away })
@@ -535,22 +535,22 @@ module _ (a : Along) (is : IsAxis a) (f : FillRange) (at : IsBeside a f) (sheet 
   merges_blank : (q : Position) (c : Cell) → get next.cells q ≡ Some c → is_empty c.content ≡ false → list_any (λ m. covers m q) next.merges ≡ false
   merges_blank q c found filled = go (now q c found)
     where
-      go : Now q c → list_any (λ m. covers m q) (kept ++ made) ≡ false
+      go : Now q c → list_any (λ m. covers m q) (kept ++ output) ≡ false
       go (Left out there) =
-          none_pass (λ m. covers m q) (kept ++ made) (all_joined (λ m. covers m q ≡ false) kept made
+          none_pass (λ m. covers m q) (kept ++ output) (all_joined (λ m. covers m q ≡ false) kept output
           (all_from (λ m. (meets m f.target ≡ false) × (covers m q ≡ false)) (λ m. covers m q ≡ false) (λ m p. p.1) kept
           (kept_are (λ m. covers m q ≡ false) (none_listed (λ m. covers m q) sheet.merges (old_hidden.merges q c there filled))))
           (all_from (IsTile Any (repetitions a f)) (λ t. covers t q ≡ false)
           (λ t s. uncovered_out t q (λ held. apart_values (holds f.target q) (held_wider t f.target q (tile_within Any t s) held) out))
-          made (made_are Any (no_more sheet.merges))))
+          output (made_are Any (no_more sheet.merges))))
       go (Filled held same) =
           let shown : is_hidden a f sheet q (steps a f q) ≡ false =
           content_shown a f sheet locale language q (ap (λ (d : Cell). is_empty d.content) same ∙ filled) in
           let open_there = none_listed (λ m. covers m (repeated q)) sheet.merges (covered_by_one (repeated q) sheet.merges old_merges.apart ∙ shown) in
-          none_pass (λ m. covers m q) (kept ++ made) (all_joined (λ m. covers m q ≡ false) kept made
+          none_pass (λ m. covers m q) (kept ++ output) (all_joined (λ m. covers m q ≡ false) kept output
           (all_from (λ m. (meets m f.target ≡ false) × Any m) (λ m. covers m q ≡ false) (λ m p. uncovered_out m q (held_out m p.0 q held)) kept
           (kept_are Any (no_more sheet.merges)))
-          (all_from (IsTile (λ m. covers m (repeated q) ≡ false) (repetitions a f)) (λ t. covers t q ≡ false) (tile_covers q) made
+          (all_from (IsTile (λ m. covers m (repeated q) ≡ false) (repetitions a f)) (λ t. covers t q ≡ false) (tile_covers q) output
           (made_are (λ m. covers m (repeated q) ≡ false) open_there)))
 
   arrays_blank : (p q : Position) (r : MergedCell) (c : Cell) → large_array_in next p ≡ Some r → get next.cells q ≡ Some c → is_empty c.content ≡ false → covers r q ≡ false

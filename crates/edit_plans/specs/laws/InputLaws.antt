@@ -367,9 +367,9 @@ pub input_planned : (w : Book) (index : ℕ) (row column : ℤ) (content : Conte
     → input_place sheet row column ≡ Ok place → (result : Result (List Diff) EditError)
     → IfOk result (λ list. list ≡ input_record content feeds sheet place) → IfOk result IsCanonicalList
     → IsOkUnless result NoMemory → Plans result w (input_put index row column content feeds w)
-input_planned w index row column content feeds rules may sheet place at goes result made kept only =
+input_planned w index row column content feeds rules may sheet place at goes result output kept only =
     plan_made w (after w index row column content feeds rules may sheet place at goes) (input_put index row column content feeds w) result
-    (input_expected w index row column content feeds rules may sheet place at goes) only (plan result made kept)
+    (input_expected w index row column content feeds rules may sheet place at goes) only (plan result output kept)
   where
     plan : (r : Result (List Diff) EditError) → IfOk r (λ list. list ≡ input_record content feeds sheet place) → IfOk r IsCanonicalList
         → IfOk r (λ list. IsPlan w list (after w index row column content feeds rules may sheet place at goes))

@@ -43,12 +43,12 @@ module _ (w : Book) (index : ℕ) (axis : LineAxis) (first last : ℤ) where
     unfolding attrs_set
     attrs_refused change error outside =
         plan_refused w (attrs_set index axis first last change w) error
-        (sheet_refuses w index (attrs_in axis first last change) sheet error at (ap (λ r. and_then r (λ count. map_ok (λ made. lines_set axis made first count sheet) change)) outside))
+        (sheet_refuses w index (attrs_in axis first last change) sheet error at (ap (λ r. and_then r (λ count. map_ok (λ output. lines_set axis output first count sheet) change)) outside))
         (lines_sure (along_of axis).last first last error outside)
 
     module _ (count : ℕ) (from : lines_from (along_of axis).last first last ≡ Ok count) where
-      taken : (change : Result LineChange EditError) → attrs_in axis first last change sheet ≡ map_ok (λ made. lines_set axis made first count sheet) change
-      taken change = ap (λ r. and_then r (λ count. map_ok (λ made. lines_set axis made first count sheet) change)) from
+      taken : (change : Result LineChange EditError) → attrs_in axis first last change sheet ≡ map_ok (λ output. lines_set axis output first count sheet) change
+      taken change = ap (λ r. and_then r (λ count. map_ok (λ output. lines_set axis output first count sheet) change)) from
 
       -- where there is no such change
       pub attrs_unchanged : (error : EditError) → error ≢ NoMemory → Plans (Err error) w (attrs_set index axis first last (Err error) w)
@@ -61,9 +61,9 @@ module _ (w : Book) (index : ℕ) (axis : LineAxis) (first last : ℤ) where
           → IfOk result (λ list. list ≡ line_diffs sheet.id axis change (lines_of axis sheet) first count) → IfOk result IsCanonicalList → IsOkUnless result NoMemory
           → Plans result w (attrs_set index axis first last (Ok change) w)
       unfolding attrs_set
-      attrs_planned rules change fits result made kept only =
+      attrs_planned rules change fits result output kept only =
           plan_made w after (attrs_set index axis first last (Ok change) w) result
-          (sheet_takes w index (attrs_in axis first last (Ok change)) sheet (lines_set axis change first count sheet) at (taken (Ok change))) only (plan result made kept)
+          (sheet_takes w index (attrs_in axis first last (Ok change)) sheet (lines_set axis change first count sheet) at (taken (Ok change))) only (plan result output kept)
         where
           after : Book
           after = with_sheet w index (lines_set axis change first count sheet)

@@ -89,9 +89,9 @@ pub link_planned : (w : Book) (index : ℕ) (row column : ℤ) (entry : Option L
     → (result : Result (List Diff) EditError) → IfOk result (λ list. list ≡ link_change sheet place entry) → IfOk result IsCanonicalList
     → IsOkUnless result NoMemory
     → Plans result w (link_set index row column entry w)
-link_planned w index row column entry rules sheet place at named result made kept only =
+link_planned w index row column entry rules sheet place at named result output kept only =
     plan_made w (after w index row column entry rules sheet place at named) (link_set index row column entry w) result
-    (link_expected w index row column entry rules sheet place at named) only (plan result made kept)
+    (link_expected w index row column entry rules sheet place at named) only (plan result output kept)
   where
     plan : (r : Result (List Diff) EditError) → IfOk r (λ list. list ≡ link_change sheet place entry) → IfOk r IsCanonicalList
         → IfOk r (λ list. IsPlan w list (after w index row column entry rules sheet place at named))

@@ -33,7 +33,7 @@ merges_differ a b other = decide (same_entry_value (MergesValue a) (MergesValue 
 -- one more diff has one more change
 pub made_more : (ds : List Diff) (cs : List Change) (d : Diff) (c : Change) → map change_of ds ≡ map Some cs → change_of d ≡ Some c
     → map change_of (ds ++ d ∷ []) ≡ map Some (cs ++ c ∷ [])
-made_more ds cs d c made is = map-append change_of ds (d ∷ []) ∙ (λ i. made i ++ is i ∷ []) ∙ sym (map-append Some cs (c ∷ []))
+made_more ds cs d c output is = map-append change_of ds (d ∷ []) ∙ (λ i. output i ++ is i ∷ []) ∙ sym (map-append Some cs (c ∷ []))
 
 -- what stays has no change
 pub no_changes : (sheet : Sheet) → IsSheetRecord (λ s. s) sheet []

@@ -36,7 +36,7 @@ module _ (edit : NameEdit) (book : Book) where
 
   -- its index is one of the list
   pub change_placed : IsWellFormed book → (change : NameChange) → name_change edit book ≡ Ok change → has_place change (length book.names) ≡ true
-  change_placed rules change is = place_before change.index change.old change.new book.names (edited book rules edit change is).made.at
+  change_placed rules change is = place_before change.index change.old change.new book.names (edited book rules edit change is).output.at
 
   -- and where it is made
   pub change_planned : IsWellFormed book → (change : NameChange) → name_change edit book ≡ Ok change

@@ -106,8 +106,8 @@ module _ (w : Book) (rules : IsWellFormed w) (index : ℕ) (sheet : Sheet) (at :
   -- so the call that carries the plan out returns a plan of the edit
   pub plan_carried : (edit : Sheet → Result Sheet EditError) → edit sheet ≡ Ok (with_plan plan sheet) → (result : Result (List Diff) EditError)
       → IfOk result (λ list. list ≡ plan_diffs plan sheet) → IfOk result IsCanonicalList → IsOkUnless result NoMemory → Plans result w (sheet_edit w index edit)
-  plan_carried edit done result made canonical only =
-      plan_made w after (sheet_edit w index edit) result (sheet_takes w index edit sheet (with_plan plan sheet) at done) only (plan_of result made canonical)
+  plan_carried edit done result output canonical only =
+      plan_made w after (sheet_edit w index edit) result (sheet_takes w index edit sheet (with_plan plan sheet) at done) only (plan_of result output canonical)
     where
       plan_of : (r : Result (List Diff) EditError) → IfOk r (λ list. list ≡ plan_diffs plan sheet) → IfOk r IsCanonicalList → IfOk r (λ list. IsPlan w list after)
       plan_of (Ok list) is kept = carried_exact list is kept

@@ -30,7 +30,7 @@ use Rattle.range_styles.specs.declared.Clearing.TheVariants.{Contents, Cells}
 use Rattle.range_styles.specs.declared.StyleRange.{StyleRange}
 use Rattle.range_styles.specs.Clearing.{clear_plan, cleared_cell, place_cleared, place_unlinked}
 use Rattle.range_styles.specs.StyleRanges.{touches}
-use Rattle.range_styles.specs.Styled.{Made, attr_styled, kept_style, line_style, line_style_made, place_styled, style_plan, styled_cell}
+use Rattle.range_styles.specs.Styled.{StyleAt, attr_styled, stored_style, line_style, line_style_made, place_styled, style_plan, styled_cell}
 use Rattle.range_styles.specs.laws.ClearLaws.{made_here}
 use Rattle.range_styles.specs.laws.RangeLaws.{get-lines_styled, styled_here}
 use Rattle.sheet_history.specs.declared.LineAxis.{LineAxis}
@@ -41,8 +41,8 @@ use Rattle.entry_records.specs.laws.PlanRules.{IsLeftCell, PlanKeeps}
 use Rattle.edit_plans.specs.laws.Fonts.{shown_font}
 
 -- fonts keep a size of 1 or more
-abbrev pub IsSized : Made → Type 0
-IsSized made = (place : Position) (style : Style) → IsTrue (has_font style) → IsTrue (has_font (made place style))
+abbrev pub IsSized : StyleAt → Type 0
+IsSized output = (place : Position) (style : Style) → IsTrue (has_font style) → IsTrue (has_font (output place style))
 
 le_test : (m n : ℤ) → m ≤ℤ n → int_le m n ≡ true
 le_test m n h = grind (arith, ints)
@@ -66,41 +66,41 @@ column_inside r inside line h =
     let high : last_column r ≤ℤ pos 16384 = inside.last.1.1 in
     grind (arith, ints, p.0, p.1, low, high)
 
-module _ (range : StyleRange) (inside : IsInside range.area) (made : Made) (sized : IsSized made) (sheet : Sheet) (rules : KeepsSheetRules sheet) where
+module _ (range : StyleRange) (inside : IsInside range.area) (output : StyleAt) (sized : IsSized output) (sheet : Sheet) (rules : KeepsSheetRules sheet) where
   -- ---- cells
 
-  planned_cell : (place : Position) (entry : Option Cell) → get (style_plan range made sheet).cells place ≡ Some entry → place_styled range made sheet place ≡ Some entry
+  planned_cell : (place : Position) (entry : Option Cell) → get (style_plan range output sheet).cells place ≡ Some entry → place_styled range output sheet place ≡ Some entry
   planned_cell place entry is =
-      sym (get-planned position_cmp position_total exact_positions (place_styled range made sheet) (places_of range.area)
-      (λ p x here. place_is_in range.area p (styled_here range made sheet p x here)) place) ∙ is
+      sym (get-planned position_cmp position_total exact_positions (place_styled range output sheet) (places_of range.area)
+      (λ p x here. place_is_in range.area p (styled_here range output sheet p x here)) place) ∙ is
 
   left_styled : (place : Position) (old : Option Cell) → get sheet.cells place ≡ old → (style : Style) → IsTrue (has_font style)
       → IsLeftCell (get sheet.cells place) (Some (styled_cell old style))
   left_styled place None found style font = (inl refl, font)
   left_styled place (Some cell) found style font = (inr (record { cell = cell; found = found; is = refl }), font)
 
-  cell_kept : (place : Position) (entry : Option Cell) → place_styled range made sheet place ≡ Some entry → IsLeftCell (get sheet.cells place) entry
+  cell_kept : (place : Position) (entry : Option Cell) → place_styled range output sheet place ≡ Some entry → IsLeftCell (get sheet.cells place) entry
   cell_kept place entry is = go (touches range sheet place) is
     where
-      go : (b : Bool) → cond b (Some (Some (styled_cell (get sheet.cells place) (made place (shown_style sheet place))))) None ≡ Some entry
+      go : (b : Bool) → cond b (Some (Some (styled_cell (get sheet.cells place) (output place (shown_style sheet place))))) None ≡ Some entry
           → IsLeftCell (get sheet.cells place) entry
       go false e = absurd (let never : ◌≡◌ {A = Option (Option Cell)} None (Some entry) = e in cc)
       go true e =
-          let same : Some (styled_cell (get sheet.cells place) (made place (shown_style sheet place))) ≡ entry = cc in
+          let same : Some (styled_cell (get sheet.cells place) (output place (shown_style sheet place))) ≡ entry = cc in
           subst (IsLeftCell (get sheet.cells place)) same
-          (left_styled place (get sheet.cells place) refl (made place (shown_style sheet place)) (sized place (shown_style sheet place) (shown_font sheet rules.attributes place)))
+          (left_styled place (get sheet.cells place) refl (output place (shown_style sheet place)) (sized place (shown_style sheet place) (shown_font sheet rules.attributes place)))
 
   -- ---- lines
 
   -- the style that a line gets may be its own
-  row_style : (style : Style) → IsTrue (has_font style) → own_style Rows (kept_style rows style) ≡ true
+  row_style : (style : Style) → IsTrue (has_font style) → own_style Rows (stored_style rows style) ≡ true
   row_style style font = go (is_default style) refl
     where
       go : (b : Bool) → is_default style ≡ b → own_style Rows (cond b None (Some style)) ≡ true
       go true is = refl
       go false is = λ i. font i && not (is i)
 
-  column_style : (style : Style) → IsTrue (has_font style) → own_style Columns (kept_style columns style) ≡ true
+  column_style : (style : Style) → IsTrue (has_font style) → own_style Columns (stored_style columns style) ≡ true
   column_style style font = font
 
   -- the style of a line has a font
@@ -117,40 +117,40 @@ module _ (range : StyleRange) (inside : IsInside range.area) (made : Made) (size
       go true is = refl
       go false is = λ i. not (is i) && size i && style i
 
-  row_kept : (line : ℤ) → own_entry Rows (attr_styled rows range made line (get sheet.rows line)) ≡ true
+  row_kept : (line : ℤ) → own_entry Rows (attr_styled rows range output line (get sheet.rows line)) ≡ true
   row_kept line =
       let own = row_own sheet rules line in
-      kept_own Rows (with_style (line_style_made rows range made line (get sheet.rows line)) (attr_of (get sheet.rows line))) (entry_size Rows (get sheet.rows line) own)
+      kept_own Rows (with_style (line_style_made rows range output line (get sheet.rows line)) (attr_of (get sheet.rows line))) (entry_size Rows (get sheet.rows line) own)
       (style range.clears)
     where
-      style : (b : Bool) → own_style Rows (cond b None (kept_style rows (made (record { row = line; column = pos 1 }) (line_style (get sheet.rows line))))) ≡ true
+      style : (b : Bool) → own_style Rows (cond b None (stored_style rows (output (record { row = line; column = pos 1 }) (line_style (get sheet.rows line))))) ≡ true
       style true = refl
-      style false = row_style (made (record { row = line; column = pos 1 }) (line_style (get sheet.rows line)))
+      style false = row_style (output (record { row = line; column = pos 1 }) (line_style (get sheet.rows line)))
           (sized (record { row = line; column = pos 1 }) (line_style (get sheet.rows line)) (own_font Rows (own_line_style (get sheet.rows line)) (entry_style Rows (get sheet.rows line) (row_own sheet rules line))))
 
-  column_kept : (line : ℤ) → own_entry Columns (attr_styled columns range made line (get sheet.columns line)) ≡ true
+  column_kept : (line : ℤ) → own_entry Columns (attr_styled columns range output line (get sheet.columns line)) ≡ true
   column_kept line =
       let own = column_own sheet rules line in
-      kept_own Columns (with_style (line_style_made columns range made line (get sheet.columns line)) (attr_of (get sheet.columns line))) (entry_size Columns (get sheet.columns line) own)
+      kept_own Columns (with_style (line_style_made columns range output line (get sheet.columns line)) (attr_of (get sheet.columns line))) (entry_size Columns (get sheet.columns line) own)
       (style range.clears)
     where
-      style : (b : Bool) → own_style Columns (cond b None (kept_style columns (made (record { row = pos 1; column = line }) (line_style (get sheet.columns line))))) ≡ true
+      style : (b : Bool) → own_style Columns (cond b None (stored_style columns (output (record { row = pos 1; column = line }) (line_style (get sheet.columns line))))) ≡ true
       style true = refl
-      style false = column_style (made (record { row = pos 1; column = line }) (line_style (get sheet.columns line)))
+      style false = column_style (output (record { row = pos 1; column = line }) (line_style (get sheet.columns line)))
           (sized (record { row = pos 1; column = line }) (line_style (get sheet.columns line)) (own_font Columns (own_line_style (get sheet.columns line)) (entry_style Columns (get sheet.columns line) (column_own sheet rules line))))
 
   -- so a change of styles keeps the rules
-  pub styled_keeps : PlanKeeps (style_plan range made sheet) sheet
+  pub styled_keeps : PlanKeeps (style_plan range output sheet) sheet
   styled_keeps = record {
     cells = λ place entry is.
         let here = planned_cell place entry is in
-        (place_passes place (held_inside range.area place inside (styled_here range made sheet place entry here)), cell_kept place entry here);
+        (place_passes place (held_inside range.area place inside (styled_here range output sheet place entry here)), cell_kept place entry here);
     links = λ place entry is. absurd (let never : ◌≡◌ {A = Option (Option Link)} None (Some entry) = sym (get-empty position_cmp place) ∙ is in cc);
     columns = λ line entry is.
-        let it = get-lines_styled columns range sheet.columns made line entry is in
+        let it = get-lines_styled columns range sheet.columns output line entry is in
         (column_inside range.area inside line (both _ _ it.0).1, ap (own_entry Columns) it.1 ∙ column_kept line);
     rows = λ line entry is.
-        let it = get-lines_styled rows range sheet.rows made line entry is in
+        let it = get-lines_styled rows range sheet.rows output line entry is in
         (row_inside range.area inside line (both _ _ it.0).1, ap (own_entry Rows) it.1 ∙ row_kept line);
   }
 

@@ -72,11 +72,11 @@ module _ (edit : RuleEdit) (book : Book) where
       -- the record of the changes is that record
       record_made : (result : Result (List Diff) EditError) → IfOk result (λ list. list ≡ diffs_of sheet changes)
           → IfOk result (λ list. list ≡ rules_record edit book)
-      record_made (Ok list) made = made ∙ sym record_is
-      record_made (Err error) made = tt
+      record_made (Ok list) output = output ∙ sym record_is
+      record_made (Err error) output = tt
 
       -- and where they are made
       pub rules_planned : IsWellFormed book → (result : Result (List Diff) EditError) → IsOkUnless result NoMemory
           → IfOk result (λ list. list ≡ diffs_of sheet changes) → IfOk result IsCanonicalList → PlansSheets (EditRules edit) result book
-      rules_planned rules result only made kept =
-          sheets_planned (EditRules edit) book (with_next (with_changes sheet changes)) result refl rules accepted_is only (record_made result made) kept
+      rules_planned rules result only output kept =
+          sheets_planned (EditRules edit) book (with_next (with_changes sheet changes)) result refl rules accepted_is only (record_made result output) kept

@@ -153,18 +153,18 @@ module _ (rules : List ConditionalFormatting) where
       go true is = nothing_differs rules
       go false is = one_differs rules index old new at (λ same. true≢false (sym ((formatting_equals old new).1 same) ∙ is))
 
-  updated_differs : (index : ℕ) (parts : List MergedCell) (rule : CfRule) (made : Option RuleChange) → rule_updated index parts rule rules ≡ Ok made
-      → AreDifferences rules (rules_after (maybe_one made) rules) (maybe_one made)
+  updated_differs : (index : ℕ) (parts : List MergedCell) (rule : CfRule) (output : Option RuleChange) → rule_updated index parts rule rules ≡ Ok output
+      → AreDifferences rules (rules_after (maybe_one output) rules) (maybe_one output)
   unfolding rule_updated
-  updated_differs index parts rule made is = go (rule_at index rules) refl (checked_rule parts rule) is
+  updated_differs index parts rule output is = go (rule_at index rules) refl (checked_rule parts rule) is
     where
       go : (found : Result ConditionalFormatting EditError) → rule_at index rules ≡ found → (checked : Result (Unit {0}) EditError)
-          → and_then found (λ old. map_ok (λ _. rule_replaced index old (formatting_of parts rule old.priority)) checked) ≡ Ok made
-          → AreDifferences rules (rules_after (maybe_one made) rules) (maybe_one made)
+          → and_then found (λ old. map_ok (λ _. rule_replaced index old (formatting_of parts rule old.priority)) checked) ≡ Ok output
+          → AreDifferences rules (rules_after (maybe_one output) rules) (maybe_one output)
       go (Err error) at checked h = absurd (cc)
       go (Ok old) at (Err error) h = absurd (cc)
       go (Ok old) at (Ok done) h =
-          let same : rule_replaced index old (formatting_of parts rule old.priority) ≡ made = cc in
+          let same : rule_replaced index old (formatting_of parts rule old.priority) ≡ output = cc in
           subst (λ c. AreDifferences rules (rules_after (maybe_one c) rules) (maybe_one c)) same
           (replaced_differs index old (formatting_of parts rule old.priority) (there_at index rules old at))
 
@@ -199,23 +199,23 @@ module _ (rules : List ConditionalFormatting) where
   order_of : (a b : ℕ) → min a b ≤ max a b
   order_of a b = grind (arith)
 
-  exchanged_differ : (a b : ℕ) (made : Option (RuleChange × RuleChange)) → rules_swapped a b rules ≡ Ok made
-      → AreDifferences rules (rules_after (maybe_two made) rules) (maybe_two made)
+  exchanged_differ : (a b : ℕ) (output : Option (RuleChange × RuleChange)) → rules_swapped a b rules ≡ Ok output
+      → AreDifferences rules (rules_after (maybe_two output) rules) (maybe_two output)
   unfolding rules_swapped
-  exchanged_differ a b made is = go (rule_at (min a b) rules) refl (rule_at (max a b) rules) refl is
+  exchanged_differ a b output is = go (rule_at (min a b) rules) refl (rule_at (max a b) rules) refl is
     where
       go : (low : Result ConditionalFormatting EditError) → rule_at (min a b) rules ≡ low → (high : Result ConditionalFormatting EditError) → rule_at (max a b) rules ≡ high
-          → and_then low (λ old. map_ok (λ other. priorities_swapped (min a b) old (max a b) other) high) ≡ Ok made
-          → AreDifferences rules (rules_after (maybe_two made) rules) (maybe_two made)
+          → and_then low (λ old. map_ok (λ other. priorities_swapped (min a b) old (max a b) other) high) ≡ Ok output
+          → AreDifferences rules (rules_after (maybe_two output) rules) (maybe_two output)
       go (Err error) first high second h = absurd (cc)
       go (Ok old) first (Err error) second h = absurd (cc)
       go (Ok old) first (Ok other) second h =
-          let same : priorities_swapped (min a b) old (max a b) other ≡ made = cc in
+          let same : priorities_swapped (min a b) old (max a b) other ≡ output = cc in
           subst (λ c. AreDifferences rules (rules_after (maybe_two c) rules) (maybe_two c)) same
           (swapped_differ (min a b) (max a b) old other (order_of a b) (there_at (min a b) rules old first) (there_at (max a b) rules other second))
 
-  mapped_differ : {A : Type 0} (f : A → List RuleChange) (made : Result A EditError) (changes : List RuleChange) → map_ok f made ≡ Ok changes
-      → ((value : A) → made ≡ Ok value → AreDifferences rules (rules_after (f value) rules) (f value)) → AreDifferences rules (rules_after changes rules) changes
+  mapped_differ : {A : Type 0} (f : A → List RuleChange) (output : Result A EditError) (changes : List RuleChange) → map_ok f output ≡ Ok changes
+      → ((value : A) → output ≡ Ok value → AreDifferences rules (rules_after (f value) rules) (f value)) → AreDifferences rules (rules_after changes rules) changes
   mapped_differ f (Ok value) changes is each =
       let same : f value ≡ changes = cc in subst (λ cs. AreDifferences rules (rules_after cs rules) cs) same (each value refl)
   mapped_differ f (Err error) changes is each = absurd (cc)
@@ -223,7 +223,7 @@ module _ (rules : List ConditionalFormatting) where
   -- the changes of such an edit are the rules that differ
   pub edited_differ : (edit : RuleEdit) (changes : List RuleChange) → IsTrue (leaves_indexes edit) → rule_changes edit rules ≡ Ok changes
       → AreDifferences rules (rules_after changes rules) changes
-  edited_differ (Add sheet parts rule) changes is made = absurd (let never : false ≡ true = is in cc)
-  edited_differ (Update sheet index parts rule) changes is made = mapped_differ maybe_one (rule_updated index parts rule rules) changes made (updated_differs index parts rule)
-  edited_differ (Delete sheet index) changes is made = absurd (let never : false ≡ true = is in cc)
-  edited_differ (Swap sheet a b) changes is made = mapped_differ maybe_two (rules_swapped a b rules) changes made (exchanged_differ a b)
+  edited_differ (Add sheet parts rule) changes is output = absurd (let never : false ≡ true = is in cc)
+  edited_differ (Update sheet index parts rule) changes is output = mapped_differ maybe_one (rule_updated index parts rule rules) changes output (updated_differs index parts rule)
+  edited_differ (Delete sheet index) changes is output = absurd (let never : false ≡ true = is in cc)
+  edited_differ (Swap sheet a b) changes is output = mapped_differ maybe_two (rules_swapped a b rules) changes output (exchanged_differ a b)

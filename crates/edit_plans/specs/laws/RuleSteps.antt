@@ -145,7 +145,7 @@ module _ (w : Book) (rules : IsWellFormed w) (id : ℕ) (f : Sheet → Sheet) (s
 -- ---- an accepted edit
 
 module _ (edit : RuleEdit) (w : Book) (rules : IsWellFormed w) (sheet : Sheet) (at : sheet_at w (sheet_index_of edit) ≡ Ok sheet)
-    (changes : List RuleChange) (made : rule_changes edit sheet.formattings ≡ Ok changes) where
+    (changes : List RuleChange) (output : rule_changes edit sheet.formattings ≡ Ok changes) where
   abbrev later : Book
   later = book_with sheet.id (changed_all changes) w
 
@@ -159,7 +159,7 @@ module _ (edit : RuleEdit) (w : Book) (rules : IsWellFormed w) (sheet : Sheet) (
   stand = sheet_rules_stand w rules sheet.id sheet found
 
   go : ChangesGo changes sheet.formattings
-  go = edited_go sheet.formattings stand edit changes made
+  go = edited_go sheet.formattings stand edit changes output
 
   later_well_formed : IsWellFormed later
   later_well_formed = with_one_well_formed w rules sheet.id (changed_all changes) (λ s. refl) (λ s. refl)
@@ -170,7 +170,7 @@ module _ (edit : RuleEdit) (w : Book) (rules : IsWellFormed w) (sheet : Sheet) (
 
   recorded : rules_record edit w ≡ diffs_of sheet changes
   recorded = ap (λ r. all_diffs (and_then r (λ (s : Sheet). map_ok (diffs_of s) (rule_changes edit s.formattings)))) at
-      ∙ ap (λ r. all_diffs (map_ok (diffs_of sheet) r)) made
+      ∙ ap (λ r. all_diffs (map_ok (diffs_of sheet) r)) output
 
   -- it leads to that workbook and back
   rules_lead : GoesBothWays (EditRules edit) w later
@@ -191,10 +191,10 @@ rules_go w rules edit later how = on_sheet (sheet_at w (sheet_index_of edit)) re
   where
     on_changes : (sheet : Sheet) → sheet_at w (sheet_index_of edit) ≡ Ok sheet → (r : Result (List RuleChange) EditError) → rule_changes edit sheet.formattings ≡ r
         → map_ok (with_sheet w (sheet_index_of edit)) (map_ok (with_changes sheet) r) ≡ Ok later → GoesBothWays (EditRules edit) w later
-    on_changes sheet at (Ok changes) made e =
+    on_changes sheet at (Ok changes) output e =
         subst (GoesBothWays (EditRules edit) w) (let same : with_sheet w (sheet_index_of edit) (with_changes sheet changes) ≡ later = cc in same)
-        (rules_goes edit w rules sheet at changes made)
-    on_changes sheet at (Err error) made e = absurd (let never : ◌≡◌ {A = Result Book EditError} (Err error) (Ok later) = e in cc)
+        (rules_goes edit w rules sheet at changes output)
+    on_changes sheet at (Err error) output e = absurd (let never : ◌≡◌ {A = Result Book EditError} (Err error) (Ok later) = e in cc)
 
     on_sheet : (r : Result Sheet EditError) → sheet_at w (sheet_index_of edit) ≡ r
         → and_then r (λ sheet. map_ok (with_sheet w (sheet_index_of edit)) (rules_in edit sheet)) ≡ Ok later → GoesBothWays (EditRules edit) w later

@@ -274,7 +274,7 @@ module _ (w : Book) (rules : IsWellFormed w) where
           let it = edited w rules edit change found in
           subst (GoesBothWays (ChangeNames edit) w) (let same : name_made change w ≡ later = cc in same)
           (one_both_ways (ChangeNames edit) (name_diff w change) w (name_made change w) rules (later_well_formed change.index w rules change.old change.new it.may)
-          (ap (λ r. one_diff (map_ok (name_diff w) r)) found) (name_both_ways change.index w change.old change.new it.made 0))
+          (ap (λ r. one_diff (map_ok (name_diff w) r)) found) (name_both_ways change.index w change.old change.new it.output 0))
       go (Err error) found e = absurd (let never : ◌≡◌ {A = Result Book EditError} (Err error) (Ok later) = e in cc)
 
 module _ (setting : Setting) (w : Book) (rules : IsWellFormed w) where

@@ -46,17 +46,17 @@ pub one_planned : (edit : Edit) (book later : Book) (diff : Diff) → IsTrue (is
     → record_of edit book later ≡ diff ∷ []
     → (result : Result (List Diff) EditError) → IsOkUnless result NoMemory → IfOk result (λ list. list ≡ diff ∷ []) → IfOk result IsCanonicalList
     → PlansSheets edit result book
-one_planned edit book later diff of_sheets rules how is (Ok list) only made kept =
-    sheets_planned edit book later (Ok list) of_sheets rules how only (made ∙ sym is) kept
-one_planned edit book later diff of_sheets rules how is (Err error) only made kept =
+one_planned edit book later diff of_sheets rules how is (Ok list) only output kept =
+    sheets_planned edit book later (Ok list) of_sheets rules how only (output ∙ sym is) kept
+one_planned edit book later diff of_sheets rules how is (Err error) only output kept =
     sheets_planned edit book later (Err error) of_sheets rules how only tt tt
 
 -- the record of a setting is that record
 pub setting_planned : (setting : Setting) (book : Book) → IsWellFormed book
     → (result : Result (List Diff) EditError) → IsOkUnless result NoMemory → IfOk result (λ list. list ≡ setting_record setting book)
     → IfOk result IsCanonicalList → PlansSheets (SetSetting setting) result book
-setting_planned setting book rules result only made kept =
-    sheets_planned (SetSetting setting) book (with_setting setting book) result refl rules refl only made kept
+setting_planned setting book rules result only output kept =
+    sheets_planned (SetSetting setting) book (with_setting setting book) result refl rules refl only output kept
 
 -- no id is missing for lack of memory
 no_id : (ids : List ℕ) (error : EditError) → next_id ids ≡ Err error → error ≢ NoMemory

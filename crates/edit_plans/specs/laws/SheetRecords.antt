@@ -88,9 +88,9 @@ module _ (change : Sheet → Sheet) (bare : (s : Sheet) → bare_sheet (change s
   -- changes of a sheet are those of its workbook
   pub sheet_record : (changes : List Change) (list : List Diff) → map change_of list ≡ map Some changes → IsSheetRecord change sheet changes
       → IsRecord w after list
-  sheet_record changes list made is = record {
+  sheet_record changes list output is = record {
     changes = changes;
-    made_of = made;
+    made_of = output;
     frame = frame_stays;
     ordered = is.ordered;
     exact = λ key. exact_at changes is key (setting_of key) refl;

@@ -23,7 +23,7 @@ use Rattle.line_sizes.specs.LineChanges.{after_change, changed_entry}
 use Rattle.sheet_history.specs.declared.LineAxis.{LineAxis}
 use Rattle.sheet_history.specs.declared.LineAxis.TheVariants.{Rows, Columns}
 use Rattle.sheet_history.specs.LineDiffs.{along_of}
-use Rattle.sheet_history.specs.Entries.{is_kept, with_sheet_entry}
+use Rattle.sheet_history.specs.Entries.{is_stored, with_sheet_entry}
 use Rattle.sheet_history.specs.Entries.EntryKey.{AttrKey}
 use Rattle.sheet_history.specs.Entries.EntryValue.{AttrValue}
 use Rattle.sheet_history.specs.laws.Entries.{all_with_entry, entry_holds}
@@ -51,7 +51,7 @@ own_entry axis None = true
 own_entry axis (Some attr) = own_attr axis attr
 
 -- what a line may have is something
-pub own_kept : (axis : LineAxis) (entry : Option LineAttr) → own_entry axis entry ≡ true → is_kept entry ≡ true
+pub own_kept : (axis : LineAxis) (entry : Option LineAttr) → own_entry axis entry ≡ true → is_stored entry ≡ true
 own_kept axis None own = refl
 own_kept axis (Some attr) own =
     (both (not (is_plain attr)) (own_size axis attr.size) (both (not (is_plain attr) && own_size axis attr.size) (own_style axis attr.style) own).0).0
@@ -200,18 +200,18 @@ width_fits width low = go (int_eq width usual_width) refl
     go false other = λ i. low i && not (other i)
 
 -- lines that get a size may have it
-pub size_fits : (axis : LineAxis) (size : ℤ) → IfOk (size_change axis size) (λ made. change_fits axis made ≡ true)
+pub size_fits : (axis : LineAxis) (size : ℤ) → IfOk (size_change axis size) (λ output. change_fits axis output ≡ true)
 unfolding size_of
 size_fits Rows size = go (int_le (pos 0) size) refl
   where
     go : (b : Bool) → int_le (pos 0) size ≡ b
-        → IfOk (map_ok (λ (size : ℤ). Size (Some size)) (cond b (Ok size) (Err NegativeSize))) (λ made. change_fits Rows made ≡ true)
+        → IfOk (map_ok (λ (size : ℤ). Size (Some size)) (cond b (Ok size) (Err NegativeSize))) (λ output. change_fits Rows output ≡ true)
     go true low = low
     go false low = tt
 size_fits Columns size = go (int_le (pos 0) size) refl
   where
     go : (b : Bool) → int_le (pos 0) size ≡ b
-        → IfOk (map_ok (λ (size : ℤ). Size (own_width size)) (cond b (Ok size) (Err NegativeSize))) (λ made. change_fits Columns made ≡ true)
+        → IfOk (map_ok (λ (size : ℤ). Size (own_width size)) (cond b (Ok size) (Err NegativeSize))) (λ output. change_fits Columns output ≡ true)
     go true low = width_fits size low
     go false low = tt
 

@@ -56,10 +56,10 @@ module _ {K V : Type 0} (R : K → K → Ordering) (id : ℕ) (tag : K → Entry
 
   -- a workbook, and a sheet, in which entries are put
   abbrev pub books : Book → List Entry → Book
-  books b es = fold (λ (made : Book) (e : Entry). put_entry made (tag e.0) (value e.1)) b es
+  books b es = fold (λ (output : Book) (e : Entry). put_entry output (tag e.0) (value e.1)) b es
 
   abbrev pub sheets : Sheet → List Entry → Sheet
-  sheets s es = fold (λ (made : Sheet) (e : Entry). with_sheet_entry (tag e.0) (value e.1) made) s es
+  sheets s es = fold (λ (output : Sheet) (e : Entry). with_sheet_entry (tag e.0) (value e.1) output) s es
 
   -- their changes
   abbrev pub diffs : Sheet → List Entry → List Diff

@@ -9,7 +9,7 @@ use Rattle.formula_tree.specs.Depth.{depth_of}
 use Rattle.formula_tree.specs.laws.MovedLaws.{depth-moved}
 use Rattle.formula_tree.specs.Placed.{is_placed}
 use Rattle.formula_tree.specs.laws.PlacedLaws.{moved-placed, placed-moved}
-use Rattle.formula_tree.specs.Rebase.{kept, filling, rebased}
+use Rattle.formula_tree.specs.Rebase.{same_corner, filling, rebased}
 
 -- a rebased tree is as deep as it was
 pub depth-rebased : (to : Position) (n : Node) → depth_of (rebased to n) ≡ depth_of n
@@ -17,8 +17,8 @@ unfolding rebased
 depth-rebased to n = depth-moved to (filling to) n
 
 -- a corner inside is kept
-kept_inside : (to : Position) (corner : Corner) → is_inside to corner ≡ true → kept to corner ≡ Some corner
-unfolding kept
+kept_inside : (to : Position) (corner : Corner) → is_inside to corner ≡ true → same_corner to corner ≡ Some corner
+unfolding same_corner
 kept_inside to corner inside = ap (λ t. if t then Some corner else None) inside
 
 left : (a b : Bool) → a && b ≡ true → a ≡ true
@@ -41,8 +41,8 @@ kept_if to corner true inside = inside
 kept_if to corner false _ = tt
 
 -- what is kept lies inside
-inside_kept : (to : Position) (corner : Corner) → IfSome (kept to corner) (λ c. is_inside to c ≡ true)
-unfolding kept
+inside_kept : (to : Position) (corner : Corner) → IfSome (same_corner to corner) (λ c. is_inside to c ≡ true)
+unfolding same_corner
 inside_kept to corner = kept_if to corner (is_inside to corner) refl
 
 -- the corners of a rebased tree lie inside and in order

@@ -125,17 +125,17 @@ module _ {X : Type 0} where
   filled_none last x first m = still m
 
   -- a block that takes nothing
-  pub none_taken : (last : ℤ) (same : X → X → Bool) (block : Block) (m made : FinMap int_cmp X) (before after : ℤ) → before ≡ block.first -ℤ pos 1 →
-      after ≡ block.first → heir same (get m before) (get m after) ≡ None → made ≡ overlaid (block_heirs last same m block) made
-  none_taken last same block m made before after p q h = still made ∙ ap (λ o. overlaid (block_given last block o) made) (sym h)
-      ∙ (λ i. overlaid (block_given last block (heir same (get m (p i)) (get m (q i)))) made)
+  pub none_taken : (last : ℤ) (same : X → X → Bool) (block : Block) (m output : FinMap int_cmp X) (before after : ℤ) → before ≡ block.first -ℤ pos 1 →
+      after ≡ block.first → heir same (get m before) (get m after) ≡ None → output ≡ overlaid (block_heirs last same m block) output
+  none_taken last same block m output before after p q h = still output ∙ ap (λ o. overlaid (block_given last block o) output) (sym h)
+      ∙ (λ i. overlaid (block_given last block (heir same (get m (p i)) (get m (q i)))) output)
 
   -- lines that are no columns, or none that are brought in
-  pub none_brought : (b : Along) (same : X → X → Bool) (o : Option Block) (m made : FinMap int_cmp X) → (o ≡ None) ⊎ (b.of false true ≡ false) →
-      made ≡ overlaid (heirs b same o m) made
-  none_brought b same None m made h = still made
-  none_brought b same (Some block) m made (inl h) = absurd (cc)
-  none_brought b same (Some block) m made (inr h) = still made ∙ ap (λ t. overlaid (if t then block_heirs b.last same m block else empty) made) (sym h)
+  pub none_brought : (b : Along) (same : X → X → Bool) (o : Option Block) (m output : FinMap int_cmp X) → (o ≡ None) ⊎ (b.of false true ≡ false) →
+      output ≡ overlaid (heirs b same o m) output
+  none_brought b same None m output h = still output
+  none_brought b same (Some block) m output (inl h) = absurd (cc)
+  none_brought b same (Some block) m output (inr h) = still output ∙ ap (λ t. overlaid (if t then block_heirs b.last same m block else empty) output) (sym h)
 
   overlaid_are : (P : ℤ → Type 0) (over m : FinMap int_cmp X) → KeysAre P over → KeysAre P m → KeysAre P (overlaid over m)
   overlaid_are P over m h i n x g = at_key (get over n) refl (sym (get-overlaid int_cmp int_cmp_total int_cmp-IsAntisymmetric over m n) ∙ g)

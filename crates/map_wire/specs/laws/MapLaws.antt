@@ -29,9 +29,9 @@ module _ {K X : Type 0} {F : K → Type 0} {G : X → Type 0} {s : K → List �
 
   -- a map that is seen as a finite map, and made of it
   pub map_format : {M : Type 0} {R : K → K → Ordering} → IsTotalOrder R → CmpEqualImpliesEq R → Format F s r → Format G t n → ((k : K) → 1 ≤ length (s k))
-      → (seen : M → FinMap R X) (made : FinMap R X → M) → ((m : FinMap R X) → seen (made m) ≡ m) → ((map : M) → made (seen map) ≡ map)
-      → Format (λ map. FitsMap F G (seen map)) (λ map. spell_map s t (seen map)) (map_of_at R made r n)
-  map_format {R} total exact key value some seen made there back =
-      made_format (entries_format R key value some) (λ es. made (from_entries es)) (λ map. entries (seen map))
-      (λ map fits. (ap made (own_entries R total exact (seen map)) ∙ back map, (fits, holds (is_sorted R (entries (seen map))) (entries_sorted (seen map)))))
-      (λ es fits. let same : entries (seen (made (from_entries es))) ≡ es = ap entries (there (from_entries es)) ∙ entries_again R total exact es fits.1 in (same, subst (FitsItems (Both F G)) (sym same) fits.0))
+      → (seen : M → FinMap R X) (model : FinMap R X → M) → ((m : FinMap R X) → seen (model m) ≡ m) → ((map : M) → model (seen map) ≡ map)
+      → Format (λ map. FitsMap F G (seen map)) (λ map. spell_map s t (seen map)) (map_of_at R model r n)
+  map_format {R} total exact key value some seen model there back =
+      made_format (entries_format R key value some) (λ es. model (from_entries es)) (λ map. entries (seen map))
+      (λ map fits. (ap model (own_entries R total exact (seen map)) ∙ back map, (fits, holds (is_sorted R (entries (seen map))) (entries_sorted (seen map)))))
+      (λ es fits. let same : entries (seen (model (from_entries es))) ≡ es = ap entries (there (from_entries es)) ∙ entries_again R total exact es fits.1 in (same, subst (FitsItems (Both F G)) (sym same) fits.0))

@@ -10,4 +10,4 @@ entries_at order key value = check_at (is_sorted order) (list_at (key ⊗ value)
 
 -- the map that such entries make, as a value of its type
 abbrev pub map_of_at : {K X M : Type 0} (order : K → K → Ordering) → (FinMap order X → M) → Reader K → Reader X → Reader M
-map_of_at order made key value = map_at (λ es. made (from_entries es)) (entries_at order key value)
+map_of_at order model key value = map_at (λ es. model (from_entries es)) (entries_at order key value)

@@ -170,29 +170,29 @@ module _ (index : ℕ) (book : Book) where
   -- the change can be made
   pub may_go : (old new : Option DefinedName) → IsMade index old new book → goes_forward (change_at index old new) (trees_lost (change_at index old new) book) book ≡ true
   unfolding goes_forward
-  may_go old new made = λ i.
-      made.some i && place_before index old new book.names made.at i && made.fits i && kept_of_replacement old new i && lies_now old new made.rules i
+  may_go old new output = λ i.
+      output.some i && place_before index old new book.names output.at i && output.fits i && kept_of_replacement old new i && lies_now old new output.rules i
 
   -- and taken back
   pub may_go_back : (old new : Option DefinedName) → IsMade index old new book
       → goes_back (change_at index old new) (trees_lost (change_at index old new) book) (name_made (change_at index old new) book) ≡ true
   unfolding goes_back goes_forward
-  may_go_back old new made =
+  may_go_back old new output =
       let kept : KeptTrees = trees_lost (change_at index old new) book in
       λ i.
-      (turned (is_some new) (is_some old) ∙ made.some) i && place_later index old new book.names made.at i && old_fits old new made.rules made.at i
-      && (ap (λ b. b || keeps_nothing kept) (both_turned (is_some new) (is_some old)) ∙ kept_of_replacement old new) i && lies_now old new made.rules i
-      && stands_later old new made.rules made.at i
+      (turned (is_some new) (is_some old) ∙ output.some) i && place_later index old new book.names output.at i && old_fits old new output.rules output.at i
+      && (ap (λ b. b || keeps_nothing kept) (both_turned (is_some new) (is_some old)) ∙ kept_of_replacement old new) i && lies_now old new output.rules i
+      && stands_later old new output.rules output.at i
 
   -- the diff leads to the later workbook and back
   pub name_both_ways : (old new : Option DefinedName) → IsMade index old new book → (at : ℕ)
       → LeadsBothWays (name_forward at (change_at index old new) (trees_lost (change_at index old new) book)) (name_back at (change_at index old new) (trees_lost (change_at index old new) book))
       book (name_made (change_at index old new) book)
   unfolding name_forward name_back
-  name_both_ways old new made at =
+  name_both_ways old new output at =
       let c = change_at index old new in
       let kept : KeptTrees = trees_lost (change_at index old new) book in
       record {
-        forth = ap (λ b. if b then Ok (name_made c book) else Err (DiffRefused 0 at)) (may_go old new made);
-        back = ap (λ b. if b then Ok (name_unmade c kept (name_made c book)) else Err (DiffRefused 0 at)) (may_go_back old new made) ∙ ap Ok (book_regained old new made.rules made.at);
+        forth = ap (λ b. if b then Ok (name_made c book) else Err (DiffRefused 0 at)) (may_go old new output);
+        back = ap (λ b. if b then Ok (name_unmade c kept (name_made c book)) else Err (DiffRefused 0 at)) (may_go_back old new output) ∙ ap Ok (book_regained old new output.rules output.at);
       }

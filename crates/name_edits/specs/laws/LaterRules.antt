@@ -78,20 +78,20 @@ module _ (index : ℕ) (book : Book) (rules : IsWellFormed book) where
 record Both {A B : Type 0} (first : Result A EditError) (step : A → Result B EditError) (value : B) : Type 0 where
   of : A
   done : first ≡ Ok of
-  made : step of ≡ Ok value
+  output : step of ≡ Ok value
 
 both_done : {A B : Type 0} (first : Result A EditError) (step : A → Result B EditError) (value : B) → and_then first step ≡ Ok value → Both first step value
-both_done (Ok of) step value is = record { of = of; done = refl; made = is }
+both_done (Ok of) step value is = record { of = of; done = refl; output = is }
 both_done (Err error) step value is = absurd (cc)
 
 -- a function of a value
 record Mapped {A B : Type 0} (first : Result A EditError) (f : A → B) (value : B) : Type 0 where
   of : A
   done : first ≡ Ok of
-  made : f of ≡ value
+  output : f of ≡ value
 
 map_done : {A B : Type 0} (f : A → B) (first : Result A EditError) (value : B) → map_ok f first ≡ Ok value → Mapped first f value
-map_done f (Ok of) value is = record { of = of; done = refl; made = cc }
+map_done f (Ok of) value is = record { of = of; done = refl; output = cc }
 map_done f (Err error) value is = absurd (cc)
 
 ok_done : {A : Type 0} (error : EditError) (o : Option A) (value : A) → ok_or error o ≡ Ok value → o ≡ Some value
@@ -120,16 +120,16 @@ record Formed (id : Option ℕ) (text : List ℕ) (tree : Node) (name : DefinedN
 formula_done : (id : Option ℕ) (text : List ℕ) (tree : Node) (name : DefinedName) → with_formula id text tree ≡ Ok name → Formed id text tree name
 formula_done id text tree name is = go (is_name_formula tree) refl is
   where
-    made : DefinedName
-    made = record { name = text; scope = id; formula = tree }
+    output : DefinedName
+    output = record { name = text; scope = id; formula = tree }
 
-    go : (b : Bool) → is_name_formula tree ≡ b → (if b then Ok made else Err BadFormula) ≡ Ok name → Formed id text tree name
+    go : (b : Bool) → is_name_formula tree ≡ b → (if b then Ok output else Err BadFormula) ≡ Ok name → Formed id text tree name
     go false fits h = absurd (cc)
     go true fits h = record { same = cc; fits = (both (not (is_parse_error tree)) (tree_fits_at first_place tree) fits).1 }
 
 -- the change of an edit of a well-formed workbook can be made, and the name that comes breaks no rule
 pub record IsEdited (change : NameChange) (book : Book) : Type 0 where
-  pub made : IsMade change.index change.old change.new book
+  pub output : IsMade change.index change.old change.new book
   pub may : IfSome change.new (MayCome (ids_of book.worksheets) (name_gone change.index change.old book.names))
 
 module _ (book : Book) (rules : IsWellFormed book) where
@@ -153,7 +153,7 @@ module _ (book : Book) (rules : IsWellFormed book) where
   living_scope (Some index) id is =
       let found = map_done (λ (sheet : Sheet). Some sheet.id) (sheet_at book index) id is in
       let at = ok_done InvalidSheet (slice_get book.worksheets index) found.of found.done in
-      subst Lives found.made (λ text tree. is_there book.worksheets index found.of at)
+      subst Lives found.output (λ text tree. is_there book.worksheets index found.of at)
 
   -- what a name that was formed may do
   formed_comes : (id found : Option ℕ) (text : List ℕ) (tree : Node) (name : DefinedName) (left : List DefinedName) → Lives id → Free id text (list_any (is_named id text) left) found
@@ -171,11 +171,11 @@ module _ (book : Book) (rules : IsWellFormed book) where
       let m = map_done (λ (name : DefinedName). change_at (length book.names) None (Some name)) (valid_name scope text tree book) c is in
       let v = both_done (name_goes scope text book) (λ id. with_formula id text tree) m.of m.done in
       let g = both_done (scope_id scope book) (λ id. free_name id text (list_any (is_named id text) book.names)) v.of v.done in
-      let free = free_done g.of text (list_any (is_named g.of text) book.names) v.of g.made in
-      let formed = formula_done v.of text tree m.of v.made in
-      subst (λ change. IsEdited change book) m.made
+      let free = free_done g.of text (list_any (is_named g.of text) book.names) v.of g.output in
+      let formed = formula_done v.of text tree m.of v.output in
+      subst (λ change. IsEdited change book) m.output
       (record {
-        made = record { rules = rules; some = refl; at = omega arith; fits = formed_fits v.of text tree m.of formed };
+        output = record { rules = rules; some = refl; at = omega arith; fits = formed_fits v.of text tree m.of formed };
         may = formed_comes g.of v.of text tree m.of book.names (living_scope scope g.of g.done) free formed;
       })
 
@@ -183,11 +183,11 @@ module _ (book : Book) (rules : IsWellFormed book) where
   unfolding name_removed
   removed scope text c is =
       let s = both_done (scope_id scope book) (λ id. and_then (known_place id text book.names) (λ place. map_ok (λ old. change_at place (Some old) None) (name_at place book.names))) c is in
-      let p = both_done (known_place s.of text book.names) (λ place. map_ok (λ old. change_at place (Some old) None) (name_at place book.names)) c s.made in
-      let m = map_done (λ (old : DefinedName). change_at p.of (Some old) None) (name_at p.of book.names) c p.made in
-      subst (λ change. IsEdited change book) m.made
+      let p = both_done (known_place s.of text book.names) (λ place. map_ok (λ old. change_at place (Some old) None) (name_at place book.names)) c s.output in
+      let m = map_done (λ (old : DefinedName). change_at p.of (Some old) None) (name_at p.of book.names) c p.output in
+      subst (λ change. IsEdited change book) m.output
       (record {
-        made = record { rules = rules; some = refl; at = ok_done UnknownName (slice_get book.names p.of) m.of m.done; fits = refl };
+        output = record { rules = rules; some = refl; at = ok_done UnknownName (slice_get book.names p.of) m.of m.done; fits = refl };
         may = tt;
       })
 
@@ -196,22 +196,22 @@ module _ (book : Book) (rules : IsWellFormed book) where
   updated scope text new_scope new_text tree c is =
       let rest = λ (found : ℕ × Option ℕ). and_then (name_at found.0 book.names) (λ old. map_ok (λ new. change_at found.0 (Some old) (Some new)) (with_formula found.1 new_text tree)) in
       let u = both_done (update_goes scope text new_scope new_text book) rest c is in
-      let o = both_done (name_at u.of.0 book.names) (λ old. map_ok (λ new. change_at u.of.0 (Some old) (Some new)) (with_formula u.of.1 new_text tree)) c u.made in
-      let n = map_done (λ (new : DefinedName). change_at u.of.0 (Some o.of) (Some new)) (with_formula u.of.1 new_text tree) c o.made in
+      let o = both_done (name_at u.of.0 book.names) (λ old. map_ok (λ new. change_at u.of.0 (Some old) (Some new)) (with_formula u.of.1 new_text tree)) c u.output in
+      let n = map_done (λ (new : DefinedName). change_at u.of.0 (Some o.of) (Some new)) (with_formula u.of.1 new_text tree) c o.output in
       let s = both_done (scope_id scope book)
       (λ id. and_then (scope_id new_scope book) (λ new_id. and_then (known_place id text book.names) (λ place. map_ok (λ found. (place, found)) (free_name new_id new_text (list_any (is_named new_id new_text) (remove book.names place))))))
       u.of u.done in
       let t = both_done (scope_id new_scope book)
       (λ new_id. and_then (known_place s.of text book.names) (λ place. map_ok (λ found. (place, found)) (free_name new_id new_text (list_any (is_named new_id new_text) (remove book.names place)))))
-      u.of s.made in
-      let p = both_done (known_place s.of text book.names) (λ place. map_ok (λ found. (place, found)) (free_name t.of new_text (list_any (is_named t.of new_text) (remove book.names place)))) u.of t.made in
-      let f = map_done (λ (found : Option ℕ). (p.of, found)) (free_name t.of new_text (list_any (is_named t.of new_text) (remove book.names p.of))) u.of p.made in
+      u.of s.output in
+      let p = both_done (known_place s.of text book.names) (λ place. map_ok (λ found. (place, found)) (free_name t.of new_text (list_any (is_named t.of new_text) (remove book.names place)))) u.of t.output in
+      let f = map_done (λ (found : Option ℕ). (p.of, found)) (free_name t.of new_text (list_any (is_named t.of new_text) (remove book.names p.of))) u.of p.output in
       let free = free_done t.of new_text (list_any (is_named t.of new_text) (remove book.names p.of)) f.of f.done in
-      let place : p.of ≡ u.of.0 = ap (λ (x : ℕ × Option ℕ). x.0) f.made in
-      let formed = subst (λ found. Formed found new_text tree n.of) (sym (ap (λ (x : ℕ × Option ℕ). x.1) f.made)) (formula_done u.of.1 new_text tree n.of n.done) in
-      subst (λ change. IsEdited change book) n.made
+      let place : p.of ≡ u.of.0 = ap (λ (x : ℕ × Option ℕ). x.0) f.output in
+      let formed = subst (λ found. Formed found new_text tree n.of) (sym (ap (λ (x : ℕ × Option ℕ). x.1) f.output)) (formula_done u.of.1 new_text tree n.of n.done) in
+      subst (λ change. IsEdited change book) n.output
       (record {
-        made = record { rules = rules; some = refl; at = ok_done UnknownName (slice_get book.names u.of.0) o.of o.done; fits = formed_fits f.of new_text tree n.of formed };
+        output = record { rules = rules; some = refl; at = ok_done UnknownName (slice_get book.names u.of.0) o.of o.done; fits = formed_fits f.of new_text tree n.of formed };
         may = subst (λ at. MayCome (ids_of book.worksheets) (remove book.names at) n.of) place
             (formed_comes t.of f.of new_text tree n.of (remove book.names p.of) (living_scope new_scope t.of t.done) free formed);
       })

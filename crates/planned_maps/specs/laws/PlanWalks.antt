@@ -50,11 +50,11 @@ module _ {X : Type 0} (make : Position → Option X) where
 
   -- of the places of a map
   abbrev pub places_put : {C : Type 0} → FinMap position_cmp X → FinMap position_cmp C → FinMap position_cmp X
-  places_put {C} m places = fold (λ made (e : Position × C). put_one make made e.0) m (entries places)
+  places_put {C} m places = fold (λ output (e : Position × C). put_one make output e.0) m (entries places)
 
   -- of those of the lines of a map that pass a test
   abbrev pub chosen_put : {V : Type 0} → (V → Bool) → Along → MergedCell → FinMap position_cmp X → FinMap int_cmp V → FinMap position_cmp X
-  chosen_put {V} test a r m lines = fold (λ made (e : ℤ × V). if test e.1 then line_done a r e.0 made else made) m (entries lines)
+  chosen_put {V} test a r m lines = fold (λ output (e : ℤ × V). if test e.1 then line_done a r e.0 output else output) m (entries lines)
 
 -- ---- tests
 

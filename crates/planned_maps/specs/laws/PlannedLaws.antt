@@ -89,9 +89,9 @@ module _ {K : Type 0} (R : K → K → Ordering) (total : IsTotalOrder R) (exact
   abbrev found_with : K → List K → K → Option X → Option X
   found_with key keys q o = find R q (cons_option (option_map (λ x. (key, x)) o) (filter_map (made_entry make) keys))
 
-  find-made : (keys : List K) (q : K) → (found keys q ≡ None) ⊎ (found keys q ≡ make q)
-  find-made [] q = inl refl
-  find-made (key ∷ keys) q = go (find-made keys q) (make key) refl
+  find-output : (keys : List K) (q : K) → (found keys q ≡ None) ⊎ (found keys q ≡ make q)
+  find-output [] q = inl refl
+  find-output (key ∷ keys) q = go (find-output keys q) (make key) refl
     where
       here : (found keys q ≡ None) ⊎ (found keys q ≡ make q) → (x : X) → make key ≡ Some x → (b : Bool) → eq_by_cmp R q key ≡ b
           → (cond b (Some x) (found keys q) ≡ None) ⊎ (cond b (Some x) (found keys q) ≡ make q)
@@ -111,12 +111,12 @@ module _ {K : Type 0} (R : K → K → Ordering) (total : IsTotalOrder R) (exact
   find-in (key ∷ keys) q x is (inr h) = go (find-in keys q x is h) (make key) refl
     where
       here : found keys q ≡ Some x → (y : X) → make key ≡ Some y → (b : Bool) → eq_by_cmp R q key ≡ b → cond b (Some y) (found keys q) ≡ Some x
-      here rest y made true same = sym made ∙ ap make (sym (one_key R total exact q key same)) ∙ is
-      here rest y made false other = rest
+      here rest y output true same = sym output ∙ ap make (sym (one_key R total exact q key same)) ∙ is
+      here rest y output false other = rest
 
       go : found keys q ≡ Some x → (o : Option X) → make key ≡ o → found_with key keys q o ≡ Some x
-      go rest None made = rest
-      go rest (Some y) made = here rest y made (eq_by_cmp R q key) refl
+      go rest None output = rest
+      go rest (Some y) output = here rest y output (eq_by_cmp R q key) refl
 
   made_or_not : (q : K) (o : Option X) → (o ≡ None) ⊎ (o ≡ make q) → ((x : X) → make q ≡ Some x → o ≡ Some x) → o ≡ make q
   made_or_not q o (inr is) there = is
@@ -131,7 +131,7 @@ module _ {K : Type 0} (R : K → K → Ordering) (total : IsTotalOrder R) (exact
   unfolding planned
   get-planned keys listed q =
       get-from_entries total (filter_map (made_entry make) keys) q
-      ∙ made_or_not q (find R q (filter_map (made_entry make) keys)) (find-made keys q) (λ x is. find-in keys q x is (listed q x is))
+      ∙ made_or_not q (find R q (filter_map (made_entry make) keys)) (find-output keys q) (λ x is. find-in keys q x is (listed q x is))
 
   -- ---- plans that are made key by key
 
@@ -203,7 +203,7 @@ test_of false h = absurd h
 
 module _ {K : Type 0} (R : K → K → Ordering) (total : IsTotalOrder R) (exact : CmpEqualImpliesEq R) {X : Type 0} where
   carried_at : (es : List (K × Option X)) → is_sorted R es ≡ true → (m : FinMap R X) (q : K)
-      → get (fold (λ made (e : K × Option X). with_entry made e.0 e.1) m es) q ≡ carried (find R q es) (get m q)
+      → get (fold (λ output (e : K × Option X). with_entry output e.0 e.1) m es) q ≡ carried (find R q es) (get m q)
   carried_at [] sorted m q = refl
   carried_at (e ∷ es) sorted m q =
       carried_at es (sorted_rest R e es sorted) (with_entry m e.0 e.1) q

@@ -128,7 +128,7 @@ module _ {X : Type 0} (make : Position → Option X) where
 
   module _ {C : Type 0} where
     abbrev put : FinMap position_cmp X → Position × C → FinMap position_cmp X
-    put made e = put_one make made e.0
+    put output e = put_one make output e.0
 
     places_go : (es : List (Position × C)) (m : FinMap position_cmp X) → GoesOn m (fold put m es)
     places_go [] m = goes_nowhere position_cmp position_total exact_positions make m
@@ -155,7 +155,7 @@ module _ {X : Type 0} (make : Position → Option X) where
 
   module _ {V : Type 0} (test : V → Bool) (a : Along) (r : MergedCell) where
     abbrev choose : FinMap position_cmp X → ℤ × V → FinMap position_cmp X
-    choose made e = cond (test e.1) (line_done make a r e.0 made) made
+    choose output e = cond (test e.1) (line_done make a r e.0 output) output
 
     choice_goes : (m : FinMap position_cmp X) (e : ℤ × V) → GoesOn m (choose m e)
     choice_goes m e = elim (test e.1) as (λ b. GoesOn m (cond b (line_done make a r e.0 m) m))
@@ -173,7 +173,7 @@ module _ {X : Type 0} (make : Position → Option X) where
       where
         here : get (choose m e) (place_across a r e.0 index) ≡ make (place_across a r e.0 index) → line ≡ e.0
             → get (choose m e) (place_across a r line index) ≡ make (place_across a r line index)
-        here made same = subst (λ l. get (choose m e) (place_across a r l index) ≡ make (place_across a r l index)) (sym same) made
+        here output same = subst (λ l. get (choose m e) (place_across a r l index) ≡ make (place_across a r l index)) (sym same) output
 
         go : (find int_cmp line es ≡ Some v → get (fold choose (choose m e) es) (place_across a r line index) ≡ make (place_across a r line index))
             → (b : Bool) → eq_by_cmp int_cmp line e.0 ≡ b → cond b (Some e.1) (find int_cmp line es) ≡ Some v

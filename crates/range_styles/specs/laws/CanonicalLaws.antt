@@ -19,7 +19,7 @@ use Rattle.range_styles.specs.declared.range.StyleRange.{StyleRange}
 use Rattle.range_styles.specs.CanonicalPlans.{CanonicalCellPlan}
 use Rattle.range_styles.specs.Clearing.{cleared_cell, place_cleared}
 use Rattle.range_styles.specs.StyleRanges.{touches}
-use Rattle.range_styles.specs.Styled.{Made, place_styled, styled_cell}
+use Rattle.range_styles.specs.Styled.{StyleAt, place_styled, styled_cell}
 use Rattle.range_styles.specs.laws.ClearLaws.{made_here}
 use Rattle.range_styles.specs.laws.RangeLaws.{styled_here}
 
@@ -32,14 +32,14 @@ styled_kept (Some cell) style h = h
 
 module _ (sheet : Sheet) (kept : CanonicalCells sheet.cells) where
   -- so it is where styles are changed
-  pub styled_canonical : (range : StyleRange) (made : Made) → CanonicalCellPlan (planned_places (place_styled range made sheet) range.area)
-  styled_canonical range made q = subst (λ o. IfSome o IsEntry)
-      (sym (get-planned position_cmp position_total exact_positions (place_styled range made sheet) (places_of range.area)
-      (λ p x is. place_is_in range.area p (styled_here range made sheet p x is)) q))
+  pub styled_canonical : (range : StyleRange) (output : StyleAt) → CanonicalCellPlan (planned_places (place_styled range output sheet) range.area)
+  styled_canonical range output q = subst (λ o. IfSome o IsEntry)
+      (sym (get-planned position_cmp position_total exact_positions (place_styled range output sheet) (places_of range.area)
+      (λ p x is. place_is_in range.area p (styled_here range output sheet p x is)) q))
       (go (touches range sheet q))
     where
-      go : (b : Bool) → IfSome (cond b (Some (Some (styled_cell (get sheet.cells q) (made q (shown_style sheet q))))) None) IsEntry
-      go true = styled_kept (get sheet.cells q) (made q (shown_style sheet q)) (kept q)
+      go : (b : Bool) → IfSome (cond b (Some (Some (styled_cell (get sheet.cells q) (output q (shown_style sheet q))))) None) IsEntry
+      go true = styled_kept (get sheet.cells q) (output q (shown_style sheet q)) (kept q)
       go false = tt
 
   -- and where contents or cells are taken away

@@ -35,7 +35,7 @@ use Rattle.range_styles.specs.StyleWalks.{reaches_all, reaches_columns, reaches_
 use Rattle.range_styles.specs.laws.StoredWalks.{cells_walked, columns_walked, rows_walked, stored_pass}
 use Rattle.range_styles.specs.laws.DefaultTest.{default_is}
 use Rattle.range_styles.specs.laws.WalkedPlaces.{none_across}
-use Rattle.range_styles.specs.Styled.{Accepts, Made, attr_styled, line_accepts, line_place, line_style, line_styled, lines_accept, lines_styled, place_accepts, place_styled, styled_cell}
+use Rattle.range_styles.specs.Styled.{Accepts, StyleAt, attr_styled, line_accepts, line_place, line_style, line_styled, lines_accept, lines_styled, place_accepts, place_styled, styled_cell}
 
 both : (a b : Bool) → (a && b) ≡ true → (a ≡ true) × (b ≡ true)
 both true b h = (refl, h)
@@ -161,44 +161,44 @@ module _ {X : Type 0} (make : Position → Option X) (range : StyleRange) (sheet
   found_made q inside (FromCell cell found) part = columns_go_on.kept q (rows_go_on.kept q (all_places_made make sheet.cells empty empty_fit q cell found))
   found_made q inside (FromRow reached attr found styled) part =
       let j = column_index range.area q inside in
-      let made : get (chosen_put make has_own_style rows range.area (cells_walked make range sheet) sheet.rows) q ≡ make q =
+      let output : get (chosen_put make has_own_style rows range.area (cells_walked make range sheet) sheet.rows) q ≡ make q =
       subst (λ p. get (chosen_put make has_own_style rows range.area (cells_walked make range sheet) sheet.rows) p ≡ make p) (across_row range.area q inside)
       (all_chosen_made make has_own_style rows range.area sheet.rows (cells_walked make range sheet) cells_fit q.row attr found styled j.index j.few) in
       columns_go_on.kept q
       (ap (λ b. get (cond b (chosen_put make has_own_style rows range.area (cells_walked make range sheet) sheet.rows) (cells_walked make range sheet)) q)
-      reached ∙ made)
+      reached ∙ output)
   found_made q inside (FromColumn reached attr found styled) part =
       let i = row_index range.area q inside in
-      let made : get (chosen_put make has_own_style columns range.area (rows_walked make range sheet) sheet.columns) q ≡ make q =
+      let output : get (chosen_put make has_own_style columns range.area (rows_walked make range sheet) sheet.columns) q ≡ make q =
       subst (λ p. get (chosen_put make has_own_style columns range.area (rows_walked make range sheet) sheet.columns) p ≡ make p)
       (across_column range.area q inside)
       (all_chosen_made make has_own_style columns range.area sheet.columns (rows_walked make range sheet) rows_fit q.column attr found styled i.index i.few) in
       ap (λ b. get (cond b (chosen_put make has_own_style columns range.area (rows_walked make range sheet) sheet.columns) (rows_walked make range sheet)) q)
-      reached ∙ made
+      reached ∙ output
   found_made q inside (FromPlace all) part = let never : true ≡ false = sym all ∙ part in absurd (cc)
 
-module _ (range : StyleRange) (made : Made) (sheet : Sheet) where
-  touched : (q : Position) (x : Option Cell) → place_styled range made sheet q ≡ Some x → touches range sheet q ≡ true
+module _ (range : StyleRange) (output : StyleAt) (sheet : Sheet) where
+  touched : (q : Position) (x : Option Cell) → place_styled range output sheet q ≡ Some x → touches range sheet q ≡ true
   touched q x is = go (touches range sheet q) refl is
     where
-      go : (b : Bool) → touches range sheet q ≡ b → cond b (Some (Some (styled_cell (get sheet.cells q) (made q (shown_style sheet q))))) None ≡ Some x
+      go : (b : Bool) → touches range sheet q ≡ b → cond b (Some (Some (styled_cell (get sheet.cells q) (output q (shown_style sheet q))))) None ≡ Some x
           → touches range sheet q ≡ true
       go true it e = it
       go false it e = absurd (let never : ◌≡◌ {A = Option (Option Cell)} None (Some x) = e in cc)
 
   -- what is styled is a place of the range
-  pub styled_here : (q : Position) (x : Option Cell) → place_styled range made sheet q ≡ Some x → holds range.area q ≡ true
+  pub styled_here : (q : Position) (x : Option Cell) → place_styled range output sheet q ≡ Some x → holds range.area q ≡ true
   styled_here q x is = (both (holds range.area q) _ (touched q x is)).0
 
   -- the plan of the places that are stored is that of the places of the range, where not each of them is touched
   pub stored_planned : reaches_all range.kind range.clears ≡ false
-      → columns_walked (place_styled range made sheet) range sheet ≡ planned_places (place_styled range made sheet) range.area
-  stored_planned part = same_plan position_cmp position_total exact_positions (place_styled range made sheet) (places_of range.area)
+      → columns_walked (place_styled range output sheet) range sheet ≡ planned_places (place_styled range output sheet) range.area
+  stored_planned part = same_plan position_cmp position_total exact_positions (place_styled range output sheet) (places_of range.area)
       (λ q x is. place_is_in range.area q (styled_here q x is))
-      (columns_walked (place_styled range made sheet) range sheet)
-      (columns_fit (place_styled range made sheet) range sheet)
+      (columns_walked (place_styled range output sheet) range sheet)
+      (columns_fit (place_styled range output sheet) range sheet)
       (λ q x is. let parts = both (holds range.area q) _ (touched q x is) in
-      found_made (place_styled range made sheet) range sheet q parts.0 (source_of range sheet q parts.1) part)
+      found_made (place_styled range output sheet) range sheet q parts.0 (source_of range sheet q parts.1) part)
 
 -- ---- tests
 
@@ -317,14 +317,14 @@ module _ (a : Along) (range : StyleRange) (lines : FinMap int_cmp LineAttr) wher
   touched_in : (line : ℤ) → touches_line a range lines line ≡ true → IsIn line (lines_from first count)
   touched_in line it = let at = touched_index line it in subst (λ l. IsIn l (lines_from first count)) (sym at.is) (line_is_in first count at.index at.few)
 
-  module _ (made : Made) where
+  module _ (output : StyleAt) where
     abbrev make : ℤ → Option (Option LineAttr)
-    make = line_styled a range made lines
+    make = line_styled a range output lines
 
     line_touched : (line : ℤ) (x : Option LineAttr) → make line ≡ Some x → touches_line a range lines line ≡ true
     line_touched line x is = go (touches_line a range lines line) refl is
       where
-        go : (b : Bool) → touches_line a range lines line ≡ b → cond b (Some (attr_styled a range made line (get lines line))) None ≡ Some x
+        go : (b : Bool) → touches_line a range lines line ≡ b → cond b (Some (attr_styled a range output line (get lines line))) None ≡ Some x
             → touches_line a range lines line ≡ true
         go true it e = it
         go false it e = absurd (let never : ◌≡◌ {A = Option (Option LineAttr)} None (Some x) = e in cc)
@@ -333,30 +333,30 @@ module _ (a : Along) (range : StyleRange) (lines : FinMap int_cmp LineAttr) wher
     listed line x is = touched_in line (line_touched line x is)
 
     -- what a line gets that is planned, which is one that the range touches
-    pub get-lines_styled : (line : ℤ) (x : Option LineAttr) → get (lines_styled a range made lines) line ≡ Some x
-        → (is_among a range line ≡ true) × (x ≡ attr_styled a range made line (get lines line))
+    pub get-lines_styled : (line : ℤ) (x : Option LineAttr) → get (lines_styled a range output lines) line ≡ Some x
+        → (is_among a range line ≡ true) × (x ≡ attr_styled a range output line (get lines line))
     get-lines_styled line x is =
         go (touches_line a range lines line) refl (sym (get-planned int_cmp int_cmp_total exact_signed make (lines_from first count) listed line) ∙ is)
       where
-        go : (b : Bool) → touches_line a range lines line ≡ b → cond b (Some (attr_styled a range made line (get lines line))) None ≡ Some x
-            → (is_among a range line ≡ true) × (x ≡ attr_styled a range made line (get lines line))
-        go true it e = let same : attr_styled a range made line (get lines line) ≡ x = cc in ((both (is_among a range line) _ it).0, sym same)
+        go : (b : Bool) → touches_line a range lines line ≡ b → cond b (Some (attr_styled a range output line (get lines line))) None ≡ Some x
+            → (is_among a range line ≡ true) × (x ≡ attr_styled a range output line (get lines line))
+        go true it e = let same : attr_styled a range output line (get lines line) ≡ x = cc in ((both (is_among a range line) _ it).0, sym same)
         go false it e = absurd (let never : ◌≡◌ {A = Option (Option LineAttr)} None (Some x) = e in cc)
 
     -- the plan of the lines one after another
-    pub each_planned : lines_put make first count ≡ lines_styled a range made lines
+    pub each_planned : lines_put make first count ≡ lines_styled a range output lines
     each_planned = same_plan int_cmp int_cmp_total exact_signed make (lines_from first count) listed (lines_put make first count) (lines_fit make first count)
         (λ line x is. let at = touched_index line (line_touched line x is) in
         subst (λ l. get (lines_put make first count) l ≡ make l) (sym at.is) (lines_made make first count at.index at.few))
 
     -- of the lines that have something, where styles are taken away
-    pub kept_planned : range.clears ≡ true → kept_put make lines ≡ lines_styled a range made lines
+    pub kept_planned : range.clears ≡ true → kept_put make lines ≡ lines_styled a range output lines
     kept_planned clears = same_map int_cmp_total exact_signed _ _ (λ line.
         get-kept_put make lines line ∙ here line (get lines line) refl
         ∙ sym (get-planned int_cmp int_cmp_total exact_signed make (lines_from first count) listed line))
       where
         untouched : (line : ℤ) → get lines line ≡ None → (b : Bool) → touches_line a range lines line ≡ b → None ≡ make line
-        untouched line none false it = sym (ap (λ b. cond b (Some (attr_styled a range made line (get lines line))) None) it)
+        untouched line none false it = sym (ap (λ b. cond b (Some (attr_styled a range output line (get lines line))) None) it)
         untouched line none true it =
             let styled : (not range.clears || has_style (get lines line)) ≡ true = (both (is_among a range line) _ it).1 in
             let never : false ≡ true = (λ i. not (sym clears i) || has_style (sym none i)) ∙ styled in absurd (cc)
@@ -366,7 +366,7 @@ module _ (a : Along) (range : StyleRange) (lines : FinMap int_cmp LineAttr) wher
         here line (Some v) found = refl
 
     -- of no line, where the range consists of none of the axis
-    pub none_planned : a.of (is_full_rows range.kind) (is_full_columns range.kind) ≡ false → empty ≡ lines_styled a range made lines
+    pub none_planned : a.of (is_full_rows range.kind) (is_full_columns range.kind) ≡ false → empty ≡ lines_styled a range output lines
     none_planned other = same_plan int_cmp int_cmp_total exact_signed make (lines_from first count) listed empty
         (empty_fits int_cmp int_cmp_total exact_signed make)
         (λ line x is. let among = (both (is_among a range line) _ (line_touched line x is)).0 in

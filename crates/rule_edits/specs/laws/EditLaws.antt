@@ -137,7 +137,7 @@ behind_stays (r ∷ rules) (suc i) (suc j) new less within = behind_stays rules 
 
 module _ (rules : List ConditionalFormatting) (all : list_all may_stand rules ≡ true) where
   one_goes : (index : ℕ) (old new : Option ConditionalFormatting) → IsMade index old new rules → ChangesGo (change_at index old new ∷ []) rules
-  one_goes index old new made = (made, tt)
+  one_goes index old new output = (output, tt)
 
   added_goes : (parts : List MergedCell) (rule : CfRule) (change : RuleChange) → rule_added parts rule rules ≡ Ok change → ChangesGo (change ∷ []) rules
   unfolding rule_added
@@ -159,16 +159,16 @@ module _ (rules : List ConditionalFormatting) (all : list_all may_stand rules �
       go true = tt
       go false = one_goes index (Some old) (Some new) (record { some = refl; at = at; fits = fits })
 
-  updated_goes : (index : ℕ) (parts : List MergedCell) (rule : CfRule) (made : Option RuleChange) → rule_updated index parts rule rules ≡ Ok made → ChangesGo (maybe_one made) rules
+  updated_goes : (index : ℕ) (parts : List MergedCell) (rule : CfRule) (output : Option RuleChange) → rule_updated index parts rule rules ≡ Ok output → ChangesGo (maybe_one output) rules
   unfolding rule_updated
-  updated_goes index parts rule made is = go (rule_at index rules) refl (checked_rule parts rule) refl is
+  updated_goes index parts rule output is = go (rule_at index rules) refl (checked_rule parts rule) refl is
     where
       go : (found : Result ConditionalFormatting EditError) → rule_at index rules ≡ found → (checked : Result (Unit {0}) EditError) → checked_rule parts rule ≡ checked
-          → and_then found (λ old. map_ok (λ _. rule_replaced index old (formatting_of parts rule old.priority)) checked) ≡ Ok made → ChangesGo (maybe_one made) rules
+          → and_then found (λ old. map_ok (λ _. rule_replaced index old (formatting_of parts rule old.priority)) checked) ≡ Ok output → ChangesGo (maybe_one output) rules
       go (Err error) at checked tested h = absurd (cc)
       go (Ok old) at (Err error) tested h = absurd (cc)
       go (Ok old) at (Ok done) tested h =
-          let same : rule_replaced index old (formatting_of parts rule old.priority) ≡ made = cc in
+          let same : rule_replaced index old (formatting_of parts rule old.priority) ≡ output = cc in
           subst (λ c. ChangesGo (maybe_one c) rules) same
           (replaced_goes index old (formatting_of parts rule old.priority) (at_index index rules old at) (checked_stands parts rule old.priority tested))
 
@@ -218,21 +218,21 @@ module _ (rules : List ConditionalFormatting) (all : list_all may_stand rules �
   order_of : (a b : ℕ) → min a b ≤ max a b
   order_of a b = let low = min-le_left a b in let high = le-max_left a b in omega (arith, low, high)
 
-  exchanged_go : (a b : ℕ) (made : Option (RuleChange × RuleChange)) → rules_swapped a b rules ≡ Ok made → ChangesGo (maybe_two made) rules
+  exchanged_go : (a b : ℕ) (output : Option (RuleChange × RuleChange)) → rules_swapped a b rules ≡ Ok output → ChangesGo (maybe_two output) rules
   unfolding rules_swapped
-  exchanged_go a b made is = go (rule_at (min a b) rules) refl (rule_at (max a b) rules) refl is
+  exchanged_go a b output is = go (rule_at (min a b) rules) refl (rule_at (max a b) rules) refl is
     where
       go : (low : Result ConditionalFormatting EditError) → rule_at (min a b) rules ≡ low → (high : Result ConditionalFormatting EditError) → rule_at (max a b) rules ≡ high
-          → and_then low (λ old. map_ok (λ other. priorities_swapped (min a b) old (max a b) other) high) ≡ Ok made → ChangesGo (maybe_two made) rules
+          → and_then low (λ old. map_ok (λ other. priorities_swapped (min a b) old (max a b) other) high) ≡ Ok output → ChangesGo (maybe_two output) rules
       go (Err error) first high second h = absurd (cc)
       go (Ok old) first (Err error) second h = absurd (cc)
       go (Ok old) first (Ok other) second h =
-          let same : priorities_swapped (min a b) old (max a b) other ≡ made = cc in
+          let same : priorities_swapped (min a b) old (max a b) other ≡ output = cc in
           subst (λ c. ChangesGo (maybe_two c) rules) same
           (swapped_goes (min a b) (max a b) old other (order_of a b) (at_index (min a b) rules old first) (at_index (max a b) rules other second))
 
-  mapped_go : {A : Type 0} (f : A → List RuleChange) (made : Result A EditError) (changes : List RuleChange) → map_ok f made ≡ Ok changes
-      → ((value : A) → made ≡ Ok value → ChangesGo (f value) rules) → ChangesGo changes rules
+  mapped_go : {A : Type 0} (f : A → List RuleChange) (output : Result A EditError) (changes : List RuleChange) → map_ok f output ≡ Ok changes
+      → ((value : A) → output ≡ Ok value → ChangesGo (f value) rules) → ChangesGo changes rules
   mapped_go f (Ok value) changes is each = let same : f value ≡ changes = cc in subst (λ c. ChangesGo c rules) same (each value refl)
   mapped_go f (Err error) changes is each = absurd (cc)
 

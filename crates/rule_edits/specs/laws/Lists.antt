@@ -89,7 +89,7 @@ module _ (p : ConditionalFormatting → Bool) where
 
 pub may_go : (index : ℕ) (old new : Option ConditionalFormatting) (rules : List ConditionalFormatting) → IsMade index old new rules → change_goes (change_at index old new) (length rules) ≡ true
 unfolding change_goes
-may_go index old new rules made = λ i. made.some i && place_before index old new rules made.at i && made.fits i
+may_go index old new rules output = λ i. output.some i && place_before index old new rules output.at i && output.fits i
 
 turned : (a b : Bool) → (a || b) ≡ (b || a)
 turned true true = refl
@@ -107,8 +107,8 @@ old_fits index (Some old) new rules all at = passes_at may_stand rules index old
 pub may_go_back : (index : ℕ) (old new : Option ConditionalFormatting) (rules : List ConditionalFormatting) → list_all may_stand rules ≡ true → IsMade index old new rules
     → change_goes (opposite (change_at index old new)) (length (rules_changed (change_at index old new) rules)) ≡ true
 unfolding change_goes
-may_go_back index old new rules all made = λ i.
-    (turned (is_some new) (is_some old) ∙ made.some) i && place_later index old new rules made.at i && old_fits index old new rules all made.at i
+may_go_back index old new rules all output = λ i.
+    (turned (is_some new) (is_some old) ∙ output.some) i && place_later index old new rules output.at i && old_fits index old new rules all output.at i
 
 fitting_one : (new : Option ConditionalFormatting) → option_map_or may_stand new true ≡ true → IfSome new (λ formatting. may_stand formatting ≡ true)
 fitting_one None fits = tt
@@ -117,4 +117,4 @@ fitting_one (Some new) fits = fits
 -- and each of the later rules may stand
 pub later_stand : (index : ℕ) (old new : Option ConditionalFormatting) (rules : List ConditionalFormatting) → list_all may_stand rules ≡ true → IsMade index old new rules
     → list_all may_stand (rules_changed (change_at index old new) rules) ≡ true
-later_stand index old new rules all made = all_changed may_stand index old new rules all (fitting_one new made.fits)
+later_stand index old new rules all output = all_changed may_stand index old new rules all (fitting_one new output.fits)

@@ -139,8 +139,8 @@ plan_found a is source to locale language sheet plan planned = go (range_of a so
     free f ranged (Err error) tested e = absurd (refused error plan e)
     free f ranged (Ok g) tested e =
         let it = range_free a f g sheet tested in
-        let made : plan_of a locale language sheet g ≡ plan = cc in
-        record { range = f; beside = range_beside a is source to f ranged; free = it.free; is = ap (plan_of a locale language sheet) it.same ∙ made }
+        let output : plan_of a locale language sheet g ≡ plan = cc in
+        record { range = f; beside = range_beside a is source to f ranged; free = it.free; is = ap (plan_of a locale language sheet) it.same ∙ output }
 
     go : (r : Result FillRange EditError) → range_of a source to ≡ r
         → map_ok (plan_of a locale language sheet) (and_then r (λ f. range_tested a f sheet)) ≡ Ok plan → IsPlanned a locale language sheet plan

@@ -6,7 +6,7 @@ ghost use Rattle.std.specs.FinMap as fin;
 ghost use Rattle.base_values.specs.Answers.{Returns, Changes};
 ghost use Rattle.base_values.specs.declared.EditError.TheVariants.{NoMemory};
 ghost use Rattle.base_values.specs.Places.{IsPlace, IsRow, IsColumn};
-ghost use Rattle.sheet_grid.specs.Lines.{line_of_row, kept_line};
+ghost use Rattle.sheet_grid.specs.Lines.{line_of_row, stored_line};
 ghost use Rattle.sheet_grid.specs.Sheet.{link_at, link_put, row_at, row_put, column_at, column_put};
 
 use super::Worksheet;
@@ -99,7 +99,7 @@ impl Worksheet {
     /// `InvalidRow` where the row is outside the sheet. To take something away needs no memory.
     pub fn put_row(&mut self, row: i32, entry: Option<RowAttr>) -> Result<(), EditError>
         ensures put { Changes result self.old self.new (row_put self.old row entry) }
-        ensures away { kept_line (option_map line_of_row entry) ≡ None → result ≢ Err NoMemory }
+        ensures away { stored_line (option_map line_of_row entry) ≡ None → result ≢ Err NoMemory }
     {
         let line = line_of(LAST_ROW, row, EditError::InvalidRow)?;
         let attr = entry.map(LineAttr::of_row);

@@ -44,7 +44,7 @@ use Rattle.sheet_history.specs.declared.setting.Setting.TheVariants as setting
 use Rattle.sheet_history.specs.Settings.{SettingKind, setting_in, plain_setting, without_settings}
 use Rattle.sheet_history.specs.Settings.SettingKind.{ThemeSetting, NameSetting, LocaleSetting, ZoneSetting}
 use Rattle.sheet_history.specs.laws.SettingLaws.{plain_is_of_kind, setting_in-with_kind, setting_in-with_kind_other, setting_in-with_sheets, sheets-with_kind, rest-with_kind}
-use Rattle.sheet_history.specs.Entries.{EntryKey, EntryValue, setting_of, sheet_id_of, sheet_entry, with_sheet_entry, cell_stands_at, is_kept, value_fits, with_changed, with_value, is_value_of, entry_found, entry_placed, entry_accepted, entry_at, put_entry, accepts, bare_sheet, frame_of}
+use Rattle.sheet_history.specs.Entries.{EntryKey, EntryValue, setting_of, sheet_id_of, sheet_entry, with_sheet_entry, cell_stands_at, is_stored, value_fits, with_changed, with_value, is_value_of, entry_found, entry_placed, entry_accepted, entry_at, put_entry, accepts, bare_sheet, frame_of}
 use Rattle.sheet_history.specs.Entries.EntryKey.{CellKey, LinkKey, MergesKey, FieldKey, AttrKey, SettingKey}
 use Rattle.sheet_history.specs.Entries.EntryValue.{CellValue, LinkValue, MergesValue, FieldValue, AttrValue, SettingValue}
 
@@ -189,7 +189,7 @@ nothing_fits (CellKey id place) (CellValue v) h = λ i. (both (is_place place) (
 nothing_fits (LinkKey id place) (LinkValue v) h = h
 nothing_fits (MergesKey id) (MergesValue v) h = refl
 nothing_fits (FieldKey id field) (FieldValue v) h = plain_is_of field
-nothing_fits (AttrKey id axis line) (AttrValue v) h = λ i. (both (is_line (along_of axis).last line) (is_kept v) h).0 i && true
+nothing_fits (AttrKey id axis line) (AttrValue v) h = λ i. (both (is_line (along_of axis).last line) (is_stored v) h).0 i && true
 nothing_fits _ _ h = absurd (let never : false ≡ true = h in cc)
 
 abbrev cell_of : EntryValue → Option Cell

@@ -96,7 +96,7 @@ changed_same id f (s ∷ ss) sheet there same =
     (λ miss. (λ i. cond (miss i) (f s ∷ ss) (s ∷ with_changed id f ss))
     ∙ ap (λ ts. s ∷ ts) (changed_same id f ss sheet ((λ i. cond (sym miss i) (Some s) (by_id id ss)) ∙ there) same))
 
-module _ (at id : ℕ) (index : ℕ) (old new : Option ConditionalFormatting) (w : Book) (sheet : Sheet) (there : sheet_of w id ≡ Some sheet) (made : IsMade index old new sheet.formattings) where
+module _ (at id : ℕ) (index : ℕ) (old new : Option ConditionalFormatting) (w : Book) (sheet : Sheet) (there : sheet_of w id ≡ Some sheet) (output : IsMade index old new sheet.formattings) where
   abbrev change : RuleChange
   change = change_at index old new
 
@@ -105,7 +105,7 @@ module _ (at id : ℕ) (index : ℕ) (old new : Option ConditionalFormatting) (w
   unfolding rule_put
   rule_made =
       ap (λ o. cond (takes_change change o) (Ok (book_rules_changed id change w)) (Err (DiffRefused 0 at))) there
-      ∙ ap (λ b. cond b (Ok (book_rules_changed id change w)) (Err (DiffRefused 0 at))) (may_go index old new sheet.formattings made)
+      ∙ ap (λ b. cond b (Ok (book_rules_changed id change w)) (Err (DiffRefused 0 at))) (may_go index old new sheet.formattings output)
 
   -- and where each rule of the sheet may stand it is taken back
   pub rule_unmade : list_all may_stand sheet.formattings ≡ true → rule_put at id (opposite change) (book_rules_changed id change w) ≡ Ok w
@@ -115,7 +115,7 @@ module _ (at id : ℕ) (index : ℕ) (old new : Option ConditionalFormatting) (w
       let f : Sheet → Sheet = with_rules_changed change in
       let g : Sheet → Sheet = with_rules_changed (opposite change) in
       let stands : sheet_of later id ≡ Some (f sheet) = found-changed f (λ s. refl) id w.worksheets ∙ ap (option_map f) there in
-      let home : g (f sheet) ≡ sheet = λ i. record sheet { formattings = rules_regained index old new sheet.formattings made.at i } in
+      let home : g (f sheet) ≡ sheet = λ i. record sheet { formattings = rules_regained index old new sheet.formattings output.at i } in
       ap (λ o. cond (takes_change (opposite change) o) (Ok (book_rules_changed id (opposite change) later)) (Err (DiffRefused 0 at))) stands
-      ∙ ap (λ b. cond b (Ok (book_rules_changed id (opposite change) later)) (Err (DiffRefused 0 at))) (may_go_back index old new sheet.formattings all made)
+      ∙ ap (λ b. cond b (Ok (book_rules_changed id (opposite change) later)) (Err (DiffRefused 0 at))) (may_go_back index old new sheet.formattings all output)
       ∙ (λ i. Ok (record w { worksheets = (changed_again id f g (λ s. refl) w.worksheets ∙ changed_same id (λ s. g (f s)) w.worksheets sheet there home) i }))

@@ -8,8 +8,7 @@ use Rattle.sheet_progress.specs.declared.detect.NumericProgressionDetector.{Nume
 use Rattle.sheet_progress.specs.contracts.detect.NumericProgressionDetectorPartialEq.TheImpl as numeric
 use Rattle.sheet_progress.specs.declared.detect.SuffixedNumberDetector.{SuffixedNumberDetector}
 use Rattle.sheet_progress.specs.contracts.detect.SuffixedNumberDetectorPartialEq.TheImpl as suffixed
-use Rattle.sheet_progress.specs.declared.detect.DateProgressionDetector.{DateProgressionDetector}
-use Rattle.sheet_progress.specs.contracts.detect.DateProgressionDetectorPartialEq.TheImpl as date
+use Rattle.sheet_progress.specs.Detectors.{TellsSameDetectors}
 
 pub numeric_detector_equals : (a b : NumericProgressionDetector) → Decides (numeric.ghosts.eq a b) (a ≡ b)
 numeric_detector_equals a b = Decides-like _ (λ p i. record { locale = p i }) (ap (λ x. x.locale)) (locale_equals a.locale b.locale)
@@ -17,6 +16,5 @@ numeric_detector_equals a b = Decides-like _ (λ p i. record { locale = p i }) (
 pub suffixed_detector_equals : (a b : SuffixedNumberDetector) → Decides (suffixed.ghosts.eq a b) (a ≡ b)
 suffixed_detector_equals a b = Decides-like _ (λ p i. record { locale = p i }) (ap (λ x. x.locale)) (locale_equals a.locale b.locale)
 
--- one locale, and seeds of one text
-pub date_detector_equals : (a b : DateProgressionDetector) → Decides (date.ghosts.eq a b) ((a.locale ≡ b.locale) × (a.case_seed.now ≡ b.case_seed.now))
+pub date_detector_equals : TellsSameDetectors
 date_detector_equals a b = Decides-and _ _ (locale_equals a.locale b.locale) (bytes_decides a.case_seed.now b.case_seed.now)

@@ -18,7 +18,7 @@ use Rattle.style_edits.specs.Values.{boolean_of, color_of, font_size, grown_size
 
 -- ---- refusals
 
--- a path and a text have one refusal, whatever the style: it is no want of memory, and it is of the text where some style may have it
+-- a path and a text have one refusal, whatever the style: it is not out of memory, and it is of the text where some style may have it
 pub record IsUpdateError (path text : List ℕ) (error : EditError) : Type 0 where
   pub sure : error ≢ NoMemory
   pub value : (style changed : Style) → updated_style style path text ≡ Ok changed → error ≡ NoValue

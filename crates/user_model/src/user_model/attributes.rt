@@ -28,7 +28,7 @@ impl<R: Recalc + Drop> UserModel<R> {
         size: i32,
     ) -> Result<(), EditError>
         ensures next { Steps result self.old.document self.new.document (edit_of (SetSize sheet axis first last size)) }
-        ensures made { OnOk result (IsMade R.Fits self.new) }
+        ensures output { OnOk result (IsMade R.Fits self.new) }
         ensures err { OnErr result (self.new ≡ self.old) }
         ensures paused { self.new.paused ≡ self.old.paused }
     {
@@ -48,7 +48,7 @@ impl<R: Recalc + Drop> UserModel<R> {
         hidden: bool,
     ) -> Result<(), EditError>
         ensures next { Steps result self.old.document self.new.document (edit_of (SetHidden sheet axis first last hidden)) }
-        ensures made { OnOk result (IsMade R.Fits self.new) }
+        ensures output { OnOk result (IsMade R.Fits self.new) }
         ensures err { OnErr result (self.new ≡ self.old) }
         ensures paused { self.new.paused ≡ self.old.paused }
     {
@@ -79,7 +79,7 @@ impl<R: Recalc + Drop> UserModel<R> {
         width: i32,
     ) -> Result<(), EditError>
         ensures next { Steps result self.old.document self.new.document (edit_of (SetSize sheet Columns first last width)) }
-        ensures made { OnOk result (IsMade R.Fits self.new) }
+        ensures output { OnOk result (IsMade R.Fits self.new) }
         ensures err { OnErr result (self.new ≡ self.old) }
         ensures paused { self.new.paused ≡ self.old.paused }
     {
@@ -102,7 +102,7 @@ impl<R: Recalc + Drop> UserModel<R> {
         height: i32,
     ) -> Result<(), EditError>
         ensures next { Steps result self.old.document self.new.document (edit_of (SetSize sheet Rows first last height)) }
-        ensures made { OnOk result (IsMade R.Fits self.new) }
+        ensures output { OnOk result (IsMade R.Fits self.new) }
         ensures err { OnErr result (self.new ≡ self.old) }
         ensures paused { self.new.paused ≡ self.old.paused }
     {
@@ -129,7 +129,7 @@ impl<R: Recalc + Drop> UserModel<R> {
         hidden: bool,
     ) -> Result<(), EditError>
         ensures next { Steps result self.old.document self.new.document (edit_of (SetHidden sheet Columns first last hidden)) }
-        ensures made { OnOk result (IsMade R.Fits self.new) }
+        ensures output { OnOk result (IsMade R.Fits self.new) }
         ensures err { OnErr result (self.new ≡ self.old) }
         ensures paused { self.new.paused ≡ self.old.paused }
     {
@@ -151,7 +151,7 @@ impl<R: Recalc + Drop> UserModel<R> {
         hidden: bool,
     ) -> Result<(), EditError>
         ensures next { Steps result self.old.document self.new.document (edit_of (SetHidden sheet Rows first last hidden)) }
-        ensures made { OnOk result (IsMade R.Fits self.new) }
+        ensures output { OnOk result (IsMade R.Fits self.new) }
         ensures err { OnErr result (self.new ≡ self.old) }
         ensures paused { self.new.paused ≡ self.old.paused }
     {
@@ -170,7 +170,7 @@ impl<R: Recalc + Drop> UserModel<R> {
     /// ```
     pub fn set_frozen_rows_count(&mut self, sheet: u32, count: i32) -> Result<(), EditError>
         ensures next { Steps result self.old.document self.new.document (edit_of (SetField sheet (FrozenRows count))) }
-        ensures made { OnOk result (IsMade R.Fits self.new) }
+        ensures output { OnOk result (IsMade R.Fits self.new) }
         ensures err { OnErr result (self.new ≡ self.old) }
         ensures paused { self.new.paused ≡ self.old.paused }
     {
@@ -186,7 +186,7 @@ impl<R: Recalc + Drop> UserModel<R> {
     /// ```
     pub fn set_frozen_columns_count(&mut self, sheet: u32, count: i32) -> Result<(), EditError>
         ensures next { Steps result self.old.document self.new.document (edit_of (SetField sheet (FrozenColumns count))) }
-        ensures made { OnOk result (IsMade R.Fits self.new) }
+        ensures output { OnOk result (IsMade R.Fits self.new) }
         ensures err { OnErr result (self.new ≡ self.old) }
         ensures paused { self.new.paused ≡ self.old.paused }
     {

@@ -18,7 +18,7 @@ impl<R: Recalc + Drop> UserModel<R> {
     /// Fills from an area to a row or a column, and records the change.
     fn auto_fill(&mut self, area: &Area, axis: LineAxis, to: i32) -> Result<(), EditError>
         ensures next { Steps result self.old.document self.new.document (fill_asked area.now.sheet axis (rectangle_of area.now) to) }
-        ensures made { OnOk result (IsMade R.Fits self.new) }
+        ensures output { OnOk result (IsMade R.Fits self.new) }
         ensures err { OnErr result (self.new ≡ self.old) }
         ensures paused { self.new.paused ≡ self.old.paused }
     {
@@ -50,7 +50,7 @@ impl<R: Recalc + Drop> UserModel<R> {
     /// ```
     pub fn auto_fill_rows(&mut self, area: &Area, to_row: i32) -> Result<(), EditError>
         ensures next { Steps result self.old.document self.new.document (fill_asked area.now.sheet Rows (rectangle_of area.now) to_row) }
-        ensures made { OnOk result (IsMade R.Fits self.new) }
+        ensures output { OnOk result (IsMade R.Fits self.new) }
         ensures err { OnErr result (self.new ≡ self.old) }
         ensures paused { self.new.paused ≡ self.old.paused }
     {
@@ -67,7 +67,7 @@ impl<R: Recalc + Drop> UserModel<R> {
     /// ```
     pub fn auto_fill_columns(&mut self, area: &Area, to_column: i32) -> Result<(), EditError>
         ensures next { Steps result self.old.document self.new.document (fill_asked area.now.sheet Columns (rectangle_of area.now) to_column) }
-        ensures made { OnOk result (IsMade R.Fits self.new) }
+        ensures output { OnOk result (IsMade R.Fits self.new) }
         ensures err { OnErr result (self.new ≡ self.old) }
         ensures paused { self.new.paused ≡ self.old.paused }
     {

@@ -27,7 +27,7 @@ impl<R: Recalc + Drop> UserModel<R> {
     ) -> Result<(), EditError>
         requires { A.along ≡ along_of axis }
         ensures next { Steps result self.old.document self.new.document (edit_of (Lines sheet axis kind)) }
-        ensures made { OnOk result (IsMade R.Fits self.new) }
+        ensures output { OnOk result (IsMade R.Fits self.new) }
         ensures err { OnErr result (self.new ≡ self.old) }
         ensures paused { self.new.paused ≡ self.old.paused }
     {
@@ -46,7 +46,7 @@ impl<R: Recalc + Drop> UserModel<R> {
     ) -> Result<(), EditError>
         requires { A.along ≡ along_of axis }
         ensures next { Steps result self.old.document self.new.document (edit_of (MoveLines sheet axis first count delta)) }
-        ensures made { OnOk result (Makes (is_silent (MoveLines sheet axis first count delta) self.old.document.book) R.Fits self.old self.new) }
+        ensures output { OnOk result (Makes (is_silent (MoveLines sheet axis first count delta) self.old.document.book) R.Fits self.old self.new) }
         ensures err { OnErr result (self.new ≡ self.old) }
         ensures paused { self.new.paused ≡ self.old.paused }
     {
@@ -77,7 +77,7 @@ impl<R: Recalc + Drop> UserModel<R> {
     /// ```
     pub fn insert_rows(&mut self, sheet: u32, row: i32, count: i32) -> Result<(), EditError>
         ensures next { Steps result self.old.document self.new.document (edit_of (Lines sheet Rows (Insert row count))) }
-        ensures made { OnOk result (IsMade R.Fits self.new) }
+        ensures output { OnOk result (IsMade R.Fits self.new) }
         ensures err { OnErr result (self.new ≡ self.old) }
         ensures paused { self.new.paused ≡ self.old.paused }
     {
@@ -104,7 +104,7 @@ impl<R: Recalc + Drop> UserModel<R> {
     /// ```
     pub fn insert_columns(&mut self, sheet: u32, column: i32, count: i32) -> Result<(), EditError>
         ensures next { Steps result self.old.document self.new.document (edit_of (Lines sheet Columns (Insert column count))) }
-        ensures made { OnOk result (IsMade R.Fits self.new) }
+        ensures output { OnOk result (IsMade R.Fits self.new) }
         ensures err { OnErr result (self.new ≡ self.old) }
         ensures paused { self.new.paused ≡ self.old.paused }
     {
@@ -131,7 +131,7 @@ impl<R: Recalc + Drop> UserModel<R> {
     /// ```
     pub fn delete_rows(&mut self, sheet: u32, row: i32, count: i32) -> Result<(), EditError>
         ensures next { Steps result self.old.document self.new.document (edit_of (Lines sheet Rows (Delete row count))) }
-        ensures made { OnOk result (IsMade R.Fits self.new) }
+        ensures output { OnOk result (IsMade R.Fits self.new) }
         ensures err { OnErr result (self.new ≡ self.old) }
         ensures paused { self.new.paused ≡ self.old.paused }
     {
@@ -155,7 +155,7 @@ impl<R: Recalc + Drop> UserModel<R> {
     /// ```
     pub fn delete_columns(&mut self, sheet: u32, column: i32, count: i32) -> Result<(), EditError>
         ensures next { Steps result self.old.document self.new.document (edit_of (Lines sheet Columns (Delete column count))) }
-        ensures made { OnOk result (IsMade R.Fits self.new) }
+        ensures output { OnOk result (IsMade R.Fits self.new) }
         ensures err { OnErr result (self.new ≡ self.old) }
         ensures paused { self.new.paused ≡ self.old.paused }
     {
@@ -190,7 +190,7 @@ impl<R: Recalc + Drop> UserModel<R> {
         delta: i32,
     ) -> Result<(), EditError>
         ensures next { Steps result self.old.document self.new.document (edit_of (MoveLines sheet Rows first count delta)) }
-        ensures made { OnOk result (Makes (is_silent (MoveLines sheet Rows first count delta) self.old.document.book) R.Fits self.old self.new) }
+        ensures output { OnOk result (Makes (is_silent (MoveLines sheet Rows first count delta) self.old.document.book) R.Fits self.old self.new) }
         ensures err { OnErr result (self.new ≡ self.old) }
         ensures paused { self.new.paused ≡ self.old.paused }
     {
@@ -218,7 +218,7 @@ impl<R: Recalc + Drop> UserModel<R> {
         delta: i32,
     ) -> Result<(), EditError>
         ensures next { Steps result self.old.document self.new.document (edit_of (MoveLines sheet Columns first count delta)) }
-        ensures made { OnOk result (Makes (is_silent (MoveLines sheet Columns first count delta) self.old.document.book) R.Fits self.old self.new) }
+        ensures output { OnOk result (Makes (is_silent (MoveLines sheet Columns first count delta) self.old.document.book) R.Fits self.old self.new) }
         ensures err { OnErr result (self.new ≡ self.old) }
         ensures paused { self.new.paused ≡ self.old.paused }
     {

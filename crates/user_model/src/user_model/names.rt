@@ -51,7 +51,7 @@ impl<R: Recalc + Drop> UserModel<R> {
     ) -> Result<(), EditError>
         requires { has_canonical_numbers tree.now ≡ true }
         ensures next { Steps result self.old.document self.new.document (edit_of (ChangeNames (Add scope name.now tree.now))) }
-        ensures made { OnOk result (IsMade R.Fits self.new) }
+        ensures output { OnOk result (IsMade R.Fits self.new) }
         ensures err { OnErr result (self.new ≡ self.old) }
         ensures paused { self.new.paused ≡ self.old.paused }
     {
@@ -74,7 +74,7 @@ impl<R: Recalc + Drop> UserModel<R> {
     ) -> Result<(), EditError>
         requires { has_canonical_numbers tree.now ≡ true }
         ensures next { Steps result self.old.document self.new.document (edit_of (ChangeNames (Update scope name.now new_scope new_name.now tree.now))) }
-        ensures made { OnOk result (IsMade R.Fits self.new) }
+        ensures output { OnOk result (IsMade R.Fits self.new) }
         ensures err { OnErr result (self.new ≡ self.old) }
         ensures paused { self.new.paused ≡ self.old.paused }
     {
@@ -115,7 +115,7 @@ impl<R: Recalc + Drop> UserModel<R> {
     ) -> Result<(), EditError>
         ensures next { OnStates self.old.document (λ state. Turns result self.new.document (name_typed scope name.now formula.now state)) }
         ensures memory { IfErr result (λ error. error ≡ NoMemory → IsOk (name_goes scope name.now self.old.document.book)) }
-        ensures made { OnOk result (IsMade R.Fits self.new) }
+        ensures output { OnOk result (IsMade R.Fits self.new) }
         ensures err { OnErr result (self.new ≡ self.old) }
         ensures paused { self.new.paused ≡ self.old.paused }
     {
@@ -136,7 +136,7 @@ impl<R: Recalc + Drop> UserModel<R> {
     /// ```
     pub fn delete_defined_name(&mut self, name: &str, scope: Option<u32>) -> Result<(), EditError>
         ensures next { Steps result self.old.document self.new.document (edit_of (ChangeNames (Remove scope name.now))) }
-        ensures made { OnOk result (IsMade R.Fits self.new) }
+        ensures output { OnOk result (IsMade R.Fits self.new) }
         ensures err { OnErr result (self.new ≡ self.old) }
         ensures paused { self.new.paused ≡ self.old.paused }
     {
@@ -171,7 +171,7 @@ impl<R: Recalc + Drop> UserModel<R> {
     ) -> Result<(), EditError>
         ensures next { OnStates self.old.document (λ state. Turns result self.new.document (update_typed scope name.now new_scope new_name.now new_formula.now state)) }
         ensures memory { IfErr result (λ error. error ≡ NoMemory → IsOk (update_goes scope name.now new_scope new_name.now self.old.document.book)) }
-        ensures made { OnOk result (IsMade R.Fits self.new) }
+        ensures output { OnOk result (IsMade R.Fits self.new) }
         ensures err { OnErr result (self.new ≡ self.old) }
         ensures paused { self.new.paused ≡ self.old.paused }
     {

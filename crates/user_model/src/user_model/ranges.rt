@@ -29,7 +29,7 @@ impl<R: Recalc + Drop> UserModel<R> {
         value: &str,
     ) -> Result<(), EditError>
         ensures next { Steps result self.old.document self.new.document (edit_of (SetRangeStyle sheet area path.now value.now)) }
-        ensures made { OnOk result (IsMade R.Fits self.new) }
+        ensures output { OnOk result (IsMade R.Fits self.new) }
         ensures err { OnErr result (self.new ≡ self.old) }
         ensures paused { self.new.paused ≡ self.old.paused }
     {
@@ -50,7 +50,7 @@ impl<R: Recalc + Drop> UserModel<R> {
     /// Clears a rectangle of the sheet at an index.
     fn clear(&mut self, sheet: u32, clearing: Clearing, area: MergedCell) -> Result<(), EditError>
         ensures next { Steps result self.old.document self.new.document (edit_of (ClearRange sheet clearing area)) }
-        ensures made { OnOk result (IsMade R.Fits self.new) }
+        ensures output { OnOk result (IsMade R.Fits self.new) }
         ensures err { OnErr result (self.new ≡ self.old) }
         ensures paused { self.new.paused ≡ self.old.paused }
     {
@@ -63,7 +63,7 @@ impl<R: Recalc + Drop> UserModel<R> {
     /// Takes the styles of a rectangle of the sheet at an index away.
     fn clear_formats(&mut self, sheet: u32, area: MergedCell) -> Result<(), EditError>
         ensures next { Steps result self.old.document self.new.document (edit_of (ClearFormatting sheet area)) }
-        ensures made { OnOk result (IsMade R.Fits self.new) }
+        ensures output { OnOk result (IsMade R.Fits self.new) }
         ensures err { OnErr result (self.new ≡ self.old) }
         ensures paused { self.new.paused ≡ self.old.paused }
     {
@@ -95,7 +95,7 @@ impl<R: Recalc + Drop> UserModel<R> {
         value: &str,
     ) -> Result<(), EditError>
         ensures next { Steps result self.old.document self.new.document (edit_of (SetRangeStyle area.now.sheet (rectangle_of area.now) path.now value.now)) }
-        ensures made { OnOk result (IsMade R.Fits self.new) }
+        ensures output { OnOk result (IsMade R.Fits self.new) }
         ensures err { OnErr result (self.new ≡ self.old) }
         ensures paused { self.new.paused ≡ self.old.paused }
     {
@@ -113,7 +113,7 @@ impl<R: Recalc + Drop> UserModel<R> {
     /// ```
     pub fn range_clear_all(&mut self, area: &Area) -> Result<(), EditError>
         ensures next { Steps result self.old.document self.new.document (edit_of (ClearRange area.now.sheet Cells (rectangle_of area.now))) }
-        ensures made { OnOk result (IsMade R.Fits self.new) }
+        ensures output { OnOk result (IsMade R.Fits self.new) }
         ensures err { OnErr result (self.new ≡ self.old) }
         ensures paused { self.new.paused ≡ self.old.paused }
     {
@@ -128,7 +128,7 @@ impl<R: Recalc + Drop> UserModel<R> {
     /// ```
     pub fn range_clear_contents(&mut self, area: &Area) -> Result<(), EditError>
         ensures next { Steps result self.old.document self.new.document (edit_of (ClearRange area.now.sheet Contents (rectangle_of area.now))) }
-        ensures made { OnOk result (IsMade R.Fits self.new) }
+        ensures output { OnOk result (IsMade R.Fits self.new) }
         ensures err { OnErr result (self.new ≡ self.old) }
         ensures paused { self.new.paused ≡ self.old.paused }
     {
@@ -148,7 +148,7 @@ impl<R: Recalc + Drop> UserModel<R> {
     /// ```
     pub fn range_clear_formatting(&mut self, area: &Area) -> Result<(), EditError>
         ensures next { Steps result self.old.document self.new.document (edit_of (ClearFormatting area.now.sheet (rectangle_of area.now))) }
-        ensures made { OnOk result (IsMade R.Fits self.new) }
+        ensures output { OnOk result (IsMade R.Fits self.new) }
         ensures err { OnErr result (self.new ≡ self.old) }
         ensures paused { self.new.paused ≡ self.old.paused }
     {
@@ -164,7 +164,7 @@ impl<R: Recalc + Drop> UserModel<R> {
     /// where there is not enough. An error changes nothing.
     pub fn on_paste_styles(&mut self, styles: &[Vec<Style>]) -> Result<(), EditError>
         ensures next { Steps result self.old.document self.new.document (pasted_edit (map (λ row. row.items) styles.now)) }
-        ensures made { OnOk result (IsMade R.Fits self.new) }
+        ensures output { OnOk result (IsMade R.Fits self.new) }
         ensures err { OnErr result (self.new ≡ self.old) }
         ensures paused { self.new.paused ≡ self.old.paused }
     {

@@ -34,7 +34,7 @@ impl<R: Recalc + Drop> UserModel<R> {
     fn read_tree(&self, place: Position, text: &str) -> Result<Shared<Node>, EditError>
         requires { IsPlace place }
         ensures value { IfOk result (λ tree. tree ≡ formula_at place text.now self.now.document.book self.now.document.language) }
-        ensures canonical { IfOk result (λ made. numbers.has_canonical_numbers made ≡ true) }
+        ensures canonical { IfOk result (λ output. numbers.has_canonical_numbers output ≡ true) }
         ensures memory { IsOkUnless result NoMemory }
     {
         let book = &self.book;
@@ -66,7 +66,7 @@ impl<R: Recalc + Drop> UserModel<R> {
         text: &str,
     ) -> Result<Shared<Node>, EditError>
         ensures read { Returns result (rule_formula sheet area text.now self.now.document.book self.now.document.language) }
-        ensures canonical { IfOk result (λ made. numbers.has_canonical_numbers made ≡ true) }
+        ensures canonical { IfOk result (λ output. numbers.has_canonical_numbers output ≡ true) }
     {
         let place = find_rule_place(&self.book.workbook, sheet, area)?;
         self.read_tree(place, text)
@@ -113,7 +113,7 @@ impl<R: Recalc + Drop> UserModel<R> {
     ) -> Result<(), EditError>
         requires { has_canonical_numbers rule.now ≡ true }
         ensures next { Steps result self.old.document self.new.document (edit_of (EditRules (Add sheet parts.now rule.now))) }
-        ensures made { OnOk result (IsMade R.Fits self.new) }
+        ensures output { OnOk result (IsMade R.Fits self.new) }
         ensures err { OnErr result (self.new ≡ self.old) }
         ensures paused { self.new.paused ≡ self.old.paused }
     {
@@ -145,7 +145,7 @@ impl<R: Recalc + Drop> UserModel<R> {
     ) -> Result<(), EditError>
         requires { has_canonical_numbers rule.now ≡ true }
         ensures next { Steps result self.old.document self.new.document (edit_of (EditRules (Update sheet index parts.now rule.now))) }
-        ensures made { OnOk result (IsMade R.Fits self.new) }
+        ensures output { OnOk result (IsMade R.Fits self.new) }
         ensures err { OnErr result (self.new ≡ self.old) }
         ensures paused { self.new.paused ≡ self.old.paused }
     {
@@ -168,7 +168,7 @@ impl<R: Recalc + Drop> UserModel<R> {
     /// ```
     pub fn delete_conditional_formatting(&mut self, sheet: u32, index: u64) -> Result<(), EditError>
         ensures next { Steps result self.old.document self.new.document (edit_of (EditRules (Delete sheet index))) }
-        ensures made { OnOk result (IsMade R.Fits self.new) }
+        ensures output { OnOk result (IsMade R.Fits self.new) }
         ensures err { OnErr result (self.new ≡ self.old) }
         ensures paused { self.new.paused ≡ self.old.paused }
     {
@@ -197,7 +197,7 @@ impl<R: Recalc + Drop> UserModel<R> {
         index_b: u64,
     ) -> Result<(), EditError>
         ensures next { Steps result self.old.document self.new.document (edit_of (EditRules (Swap sheet index_a index_b))) }
-        ensures made { OnOk result (IsMade R.Fits self.new) }
+        ensures output { OnOk result (IsMade R.Fits self.new) }
         ensures err { OnErr result (self.new ≡ self.old) }
         ensures paused { self.new.paused ≡ self.old.paused }
     {

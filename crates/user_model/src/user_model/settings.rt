@@ -37,7 +37,7 @@ impl<R: Recalc + Drop> UserModel<R> {
     fn put_setting(&mut self, setting: Setting) -> Result<(), EditError>
         requires { is_silent (SetSetting setting) self.now.document.book ≡ false }
         ensures next { Steps result self.old.document self.new.document (edit_of (SetSetting setting)) }
-        ensures made { OnOk result (IsMade R.Fits self.new) }
+        ensures output { OnOk result (IsMade R.Fits self.new) }
         ensures err { OnErr result (self.new ≡ self.old) }
         ensures paused { self.new.paused ≡ self.old.paused }
     {
@@ -53,7 +53,7 @@ impl<R: Recalc + Drop> UserModel<R> {
     fn put_name(&mut self, name: &str) -> Result<(), EditError>
         requires { is_silent (SetSetting (value.Name name.now)) self.now.document.book ≡ false }
         ensures next { Steps result self.old.document self.new.document (edit_of (SetSetting (value.Name name.now))) }
-        ensures made { OnOk result (IsMade R.Fits self.new) }
+        ensures output { OnOk result (IsMade R.Fits self.new) }
         ensures err { OnErr result (self.new ≡ self.old) }
         ensures paused { self.new.paused ≡ self.old.paused }
     {
@@ -75,7 +75,7 @@ impl<R: Recalc + Drop> UserModel<R> {
     /// ```
     pub fn set_name(&mut self, name: &str) -> Result<(), EditError>
         ensures next { Steps result self.old.document self.new.document (edit_of (SetSetting (value.Name name.now))) }
-        ensures made { OnOk result (Makes (is_silent (SetSetting (value.Name name.now)) self.old.document.book) R.Fits self.old self.new) }
+        ensures output { OnOk result (Makes (is_silent (SetSetting (value.Name name.now)) self.old.document.book) R.Fits self.old self.new) }
         ensures err { OnErr result (self.new ≡ self.old) }
         ensures paused { self.new.paused ≡ self.old.paused }
     {
@@ -95,7 +95,7 @@ impl<R: Recalc + Drop> UserModel<R> {
     /// ```
     pub fn set_theme(&mut self, theme: &Theme) -> Result<(), EditError>
         ensures next { Steps result self.old.document self.new.document (edit_of (SetSetting (value.Theme theme.now))) }
-        ensures made { OnOk result (IsMade R.Fits self.new) }
+        ensures output { OnOk result (IsMade R.Fits self.new) }
         ensures err { OnErr result (self.new ≡ self.old) }
         ensures paused { self.new.paused ≡ self.old.paused }
     {
@@ -113,7 +113,7 @@ impl<R: Recalc + Drop> UserModel<R> {
     /// ```
     pub fn set_locale(&mut self, locale: &str) -> Result<(), EditError>
         ensures next { Steps result self.old.document self.new.document (locale_set locale.now) }
-        ensures made { OnOk result (IsMade R.Fits self.new) }
+        ensures output { OnOk result (IsMade R.Fits self.new) }
         ensures err { OnErr result (self.new ≡ self.old) }
         ensures paused { self.new.paused ≡ self.old.paused }
     {
@@ -133,7 +133,7 @@ impl<R: Recalc + Drop> UserModel<R> {
     /// ```
     pub fn set_timezone(&mut self, zone: &str) -> Result<(), EditError>
         ensures next { Steps result self.old.document self.new.document (zone_set zone.now) }
-        ensures made { OnOk result (IsMade R.Fits self.new) }
+        ensures output { OnOk result (IsMade R.Fits self.new) }
         ensures err { OnErr result (self.new ≡ self.old) }
         ensures paused { self.new.paused ≡ self.old.paused }
     {

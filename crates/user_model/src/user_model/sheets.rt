@@ -57,7 +57,7 @@ impl<R: Recalc + Drop> UserModel<R> {
     /// ```
     pub fn new_sheet(&mut self) -> Result<(), EditError>
         ensures next { Steps result self.old.document self.new.document (edit_of AddSheet) }
-        ensures made { OnOk result (IsMade R.Fits self.new) }
+        ensures output { OnOk result (IsMade R.Fits self.new) }
         ensures err { OnErr result (self.new ≡ self.old) }
         ensures paused { self.new.paused ≡ self.old.paused }
     {
@@ -83,7 +83,7 @@ impl<R: Recalc + Drop> UserModel<R> {
     /// ```
     pub fn duplicate_sheet(&mut self, sheet: u32) -> Result<(), EditError>
         ensures next { Steps result self.old.document self.new.document (edit_of (CopySheet sheet)) }
-        ensures made { OnOk result (IsMade R.Fits self.new) }
+        ensures output { OnOk result (IsMade R.Fits self.new) }
         ensures err { OnErr result (self.new ≡ self.old) }
         ensures paused { self.new.paused ≡ self.old.paused }
     {
@@ -107,7 +107,7 @@ impl<R: Recalc + Drop> UserModel<R> {
     /// ```
     pub fn delete_sheet(&mut self, sheet: u32) -> Result<(), EditError>
         ensures next { Steps result self.old.document self.new.document (edit_of (DeleteSheet sheet)) }
-        ensures made { OnOk result (IsMade R.Fits self.new) }
+        ensures output { OnOk result (IsMade R.Fits self.new) }
         ensures err { OnErr result (self.new ≡ self.old) }
         ensures paused { self.new.paused ≡ self.old.paused }
     {
@@ -131,7 +131,7 @@ impl<R: Recalc + Drop> UserModel<R> {
     /// ```
     pub fn move_sheet(&mut self, from: u32, to: u32) -> Result<(), EditError>
         ensures next { Steps result self.old.document self.new.document (edit_of (MoveSheet from to)) }
-        ensures made { OnOk result (Makes (is_silent (MoveSheet from to) self.old.document.book) R.Fits self.old self.new) }
+        ensures output { OnOk result (Makes (is_silent (MoveSheet from to) self.old.document.book) R.Fits self.old self.new) }
         ensures err { OnErr result (self.new ≡ self.old) }
         ensures paused { self.new.paused ≡ self.old.paused }
     {
@@ -145,7 +145,7 @@ impl<R: Recalc + Drop> UserModel<R> {
     fn take_sheet(&mut self, from: u32, to: u32) -> Result<(), EditError>
         requires { is_silent (MoveSheet from to) self.now.document.book ≡ false }
         ensures next { Steps result self.old.document self.new.document (edit_of (MoveSheet from to)) }
-        ensures made { OnOk result (IsMade R.Fits self.new) }
+        ensures output { OnOk result (IsMade R.Fits self.new) }
         ensures err { OnErr result (self.new ≡ self.old) }
         ensures paused { self.new.paused ≡ self.old.paused }
     {
@@ -172,7 +172,7 @@ impl<R: Recalc + Drop> UserModel<R> {
     /// ```
     pub fn rename_sheet(&mut self, sheet: u32, name: &str) -> Result<(), EditError>
         ensures next { Steps result self.old.document self.new.document (edit_of (RenameSheet sheet name.now)) }
-        ensures made { OnOk result (Makes (is_silent (RenameSheet sheet name.now) self.old.document.book) R.Fits self.old self.new) }
+        ensures output { OnOk result (Makes (is_silent (RenameSheet sheet name.now) self.old.document.book) R.Fits self.old self.new) }
         ensures err { OnErr result (self.new ≡ self.old) }
         ensures paused { self.new.paused ≡ self.old.paused }
     {
@@ -186,7 +186,7 @@ impl<R: Recalc + Drop> UserModel<R> {
     fn name_sheet(&mut self, sheet: u32, name: &str) -> Result<(), EditError>
         requires { is_silent (RenameSheet sheet name.now) self.now.document.book ≡ false }
         ensures next { Steps result self.old.document self.new.document (edit_of (RenameSheet sheet name.now)) }
-        ensures made { OnOk result (IsMade R.Fits self.new) }
+        ensures output { OnOk result (IsMade R.Fits self.new) }
         ensures err { OnErr result (self.new ≡ self.old) }
         ensures paused { self.new.paused ≡ self.old.paused }
     {
@@ -201,7 +201,7 @@ impl<R: Recalc + Drop> UserModel<R> {
     /// Puts a value in a field of the sheet at an index, and records the change.
     pub(super) fn put_field(&mut self, sheet: u32, value: SheetField) -> Result<(), EditError>
         ensures next { Steps result self.old.document self.new.document (edit_of (SetField sheet value)) }
-        ensures made { OnOk result (IsMade R.Fits self.new) }
+        ensures output { OnOk result (IsMade R.Fits self.new) }
         ensures err { OnErr result (self.new ≡ self.old) }
         ensures paused { self.new.paused ≡ self.old.paused }
     {
@@ -223,7 +223,7 @@ impl<R: Recalc + Drop> UserModel<R> {
     /// ```
     pub fn hide_sheet(&mut self, sheet: u32) -> Result<(), EditError>
         ensures next { Steps result self.old.document self.new.document (edit_of (SetField sheet (field.State Hidden))) }
-        ensures made { OnOk result (IsMade R.Fits self.new) }
+        ensures output { OnOk result (IsMade R.Fits self.new) }
         ensures err { OnErr result (self.new ≡ self.old) }
         ensures paused { self.new.paused ≡ self.old.paused }
     {
@@ -238,7 +238,7 @@ impl<R: Recalc + Drop> UserModel<R> {
     /// ```
     pub fn unhide_sheet(&mut self, sheet: u32) -> Result<(), EditError>
         ensures next { Steps result self.old.document self.new.document (edit_of (SetField sheet (field.State Visible))) }
-        ensures made { OnOk result (IsMade R.Fits self.new) }
+        ensures output { OnOk result (IsMade R.Fits self.new) }
         ensures err { OnErr result (self.new ≡ self.old) }
         ensures paused { self.new.paused ≡ self.old.paused }
     {
@@ -253,7 +253,7 @@ impl<R: Recalc + Drop> UserModel<R> {
     /// ```
     pub fn set_sheet_color(&mut self, sheet: u32, color: &Color) -> Result<(), EditError>
         ensures next { Steps result self.old.document self.new.document (edit_of (SetField sheet (field.Color color.now))) }
-        ensures made { OnOk result (IsMade R.Fits self.new) }
+        ensures output { OnOk result (IsMade R.Fits self.new) }
         ensures err { OnErr result (self.new ≡ self.old) }
         ensures paused { self.new.paused ≡ self.old.paused }
     {
@@ -268,7 +268,7 @@ impl<R: Recalc + Drop> UserModel<R> {
     /// ```
     pub fn set_show_grid_lines(&mut self, sheet: u32, show: bool) -> Result<(), EditError>
         ensures next { Steps result self.old.document self.new.document (edit_of (SetField sheet (field.GridLines show))) }
-        ensures made { OnOk result (IsMade R.Fits self.new) }
+        ensures output { OnOk result (IsMade R.Fits self.new) }
         ensures err { OnErr result (self.new ≡ self.old) }
         ensures paused { self.new.paused ≡ self.old.paused }
     {

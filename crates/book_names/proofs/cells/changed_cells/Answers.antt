@@ -12,12 +12,12 @@ loop-place-preserved g c =
     (c.in-Some.place, c.in-Some.cell) c.in-Some.is c.next.ensures.steps) in
     listed_on position_total exact_positions c.loop-place.invariant (c.in-Some.place, c.in-Some.cell) c.in-Some.is c.next.ensures.steps
     (λ q there. let same : c.in-Some.place.now ≡ q = cc in subst IsPlace same inside)
-    (c.in_ok-put_last.ensures.made ∙ ap (λ cell. c.loop-place.made ++ (c.in-Some.place.now, cell) ∷ []) c.in_ok-changed.ensures.cell)
+    (c.in_ok-put_last.ensures.output ∙ ap (λ cell. c.loop-place.output ++ (c.in-Some.place.now, cell) ∷ []) c.in_ok-changed.ensures.cell)
 
 pub of_entries-requires : goal.of_entries-requires
 of_entries-requires g c = record { inside = c.loop-place.invariant.inside }
 
 pub returns-clause-cells : goal.returns-clause-cells
 returns-clause-cells g c =
-    IfOk-weaker c.of_entries.result _ _ (λ made is. is ∙ listed_all position_total exact_positions c.loop-place.invariant own_inverse c.next.new.self c.in-None.is c.next.ensures.steps)
+    IfOk-weaker c.of_entries.result _ _ (λ output is. is ∙ listed_all position_total exact_positions c.loop-place.invariant own_inverse c.next.new.self c.in-None.is c.next.ensures.steps)
     c.of_entries.ensures.map

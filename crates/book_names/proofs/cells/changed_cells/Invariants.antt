@@ -6,4 +6,4 @@ use Rattle.book_names.proofs.cells.changed_cells.Given as goal
 
 abbrev pub invariant-loop-place : goal.invariant-loop-place
 invariant-loop-place g l =
-    Listed IsPlace deref_pair Some (λ _ place cell. Some (g.C.CellChange.change l.fn.change place cell)) l.fn.cells l.yielded l.place-iterator l.made
+    Listed IsPlace deref_pair Some (λ _ place cell. Some (g.C.CellChange.change l.fn.change place cell)) l.fn.cells l.yielded l.place-iterator l.output

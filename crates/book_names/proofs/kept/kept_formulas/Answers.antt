@@ -30,7 +30,7 @@ loop-sheet-preserved g c =
     let within : i < length sheets = omega arith in (
       c.in_ok-put_under.ensures.ok
           ∙ (λ j. put_under (c.get_sheet_id.ensures j) (more.kept j) (c.loop-sheet.invariant.0 j))
-          ∙ sym (fold_more (λ made (sheet : Sheet). put_under sheet.id (cells_kept (there sheet.id) (back sheet.id) old new sheet.cells) made) empty sheets i c.sheet-item.result within
+          ∙ sym (fold_more (λ output (sheet : Sheet). put_under sheet.id (cells_kept (there sheet.id) (back sheet.id) old new sheet.cells) output) empty sheets i c.sheet-item.result within
           ∙ ap (λ (sheet : Sheet). put_under sheet.id (cells_kept (there sheet.id) (back sheet.id) old new sheet.cells) (formulas_kept there back old new (take i sheets))) (sym c.sheet-item.is)),
       subst AreCanonicalFormulas (sym c.in_ok-put_under.ensures.ok)
           (put_under_are (λ tree. IsTrue (has_canonical_numbers tree)) c.get_sheet_id.result _ c.loop-sheet.kept more.numbers c.loop-sheet.invariant.1),

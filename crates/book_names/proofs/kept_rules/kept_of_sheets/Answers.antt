@@ -4,8 +4,7 @@ use Rattle.std.proofs.lemmas.List.Sums.{fold_more}
 use Rattle.base_maps.specs.laws.Each.{no_entry}
 use Rattle.format_rules.specs.Canonical.{IsCanonicalFormatting}
 use Rattle.base_maps.specs.SheetIndexes.{sheet_index_cmp}
-use Rattle.base_maps.specs.TaggedIndexes.{put_under}
-use Rattle.base_maps.specs.laws.TaggedIndexes.{put_under_are}
+use Rattle.base_maps.specs.laws.TaggedIndexes.{put_under, put_under_are}
 use Rattle.sheet_grid.specs.Sheet.{Sheet}
 use Rattle.book_names.specs.Renaming.{AreCanonicalFormattings, formattings_kept, own_formattings_kept}
 use Rattle.book_names.proofs.kept_rules.kept_of_sheets.Goals as goal
@@ -28,7 +27,7 @@ loop-sheet-preserved g c =
     let within : i < length sheets = omega arith in (
       c.in_ok-put_under.ensures.ok
           ∙ (λ j. put_under (c.get_sheet_id.ensures j) (more.kept j) (c.loop-sheet.invariant.0 j))
-          ∙ sym (fold_more (λ made (sheet : Sheet). put_under sheet.id (own_formattings_kept (there sheet.id) (back sheet.id) old new sheet.formattings) made) empty sheets i c.sheet-item.result within
+          ∙ sym (fold_more (λ output (sheet : Sheet). put_under sheet.id (own_formattings_kept (there sheet.id) (back sheet.id) old new sheet.formattings) output) empty sheets i c.sheet-item.result within
           ∙ ap (λ (sheet : Sheet). put_under sheet.id (own_formattings_kept (there sheet.id) (back sheet.id) old new sheet.formattings) (formattings_kept there back old new (take i sheets)))
           (sym c.sheet-item.is)),
       subst AreCanonicalFormattings (sym c.in_ok-put_under.ensures.ok)

@@ -4,4 +4,4 @@ use Rattle.book_names.specs.Renaming.{names_back}
 use Rattle.book_names.proofs.names.names_back.Given as goal
 
 abbrev pub invariant-loop-place : goal.invariant-loop-place
-invariant-loop-place l = l.made ≡ names_back l.reach l.old l.new (get l.kept) (take l.place l.names)
+invariant-loop-place l = l.output ≡ names_back l.reach l.old l.new (get l.kept) (take l.place l.names)

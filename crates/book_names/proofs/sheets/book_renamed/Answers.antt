@@ -10,7 +10,7 @@ pub returns-clause-book : goal.returns-clause-book
 returns-clause-book c =
     let w = c.args.workbook.now in
     let name = c.in_ok-new.ensures.name in
-    IfOk-weaker c.with_lists.result _ _ (λ made is. is ∙ (λ i. record w {
+    IfOk-weaker c.with_lists.result _ _ (λ output is. is ∙ (λ i. record w {
       names = (c.in_ok-names.ensures.names ∙ (λ j. map (defined_renamed Sheets c.args.old.now (name j)) (c.name_list.ensures j))) i;
       worksheets = (c.in_ok-sheets.ensures.sheets ∙ (λ j. map (sheet_renamed c.args.id c.args.old.now (name j)) (c.worksheets.ensures j))) i;
     })) c.with_lists.ensures.book
@@ -18,4 +18,4 @@ returns-clause-book c =
 pub returns-clause-placed : goal.returns-clause-placed
 returns-clause-placed c =
     let w = c.args.workbook.now in
-    IfOk-weaker c.with_lists.result _ _ (λ made is. subst IsPlacedBook (sym is) (placed_book c.args.id c.args.old.now c.args.new.now w.worksheets c.requires)) (returns-clause-book c)
+    IfOk-weaker c.with_lists.result _ _ (λ output is. subst IsPlacedBook (sym is) (placed_book c.args.id c.args.old.now c.args.new.now w.worksheets c.requires)) (returns-clause-book c)

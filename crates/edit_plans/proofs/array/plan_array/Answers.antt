@@ -23,5 +23,5 @@ array_list-requires-clause-place c = array_named c.in_ok-found.found.now c.args.
 pub returns : goal.returns
 returns c = record {
   planned = array_planned c.args.workbook.now c.args.sheet c.args.area c.args.tree c.in_ok-found.found.now (sym (c.in_ok-found.ensures {u = _})) c.requires.rules c.requires.fits
-      c.in_ok-free.free (sym (c.in_ok-free.ensures {u = _}).area) c.array_list.result c.array_list.ensures.made c.array_list.ensures.canonical c.array_list.ensures.only;
+      c.in_ok-free.free (sym (c.in_ok-free.ensures {u = _}).area) c.array_list.result c.array_list.ensures.output c.array_list.ensures.canonical c.array_list.ensures.only;
 }

@@ -21,14 +21,14 @@ push_diff-requires-clause-list c = c.loop-place.invariant.canonical
 
 pub loop-place-preserved : goal.loop-place-preserved
 loop-place-preserved c =
-    let made = (c.in_ok-diff.ensures {u = _}).made in
+    let output = (c.in_ok-diff.ensures {u = _}).output in
     adds_on c.loop-place.invariant (c.in-Some.place, c.in-Some.cell) c.in-Some.is c.next.ensures.steps
-    (c.in_ok-push_diff.ensures.made
+    (c.in_ok-push_diff.ensures.output
     ∙ ap (λ d. c.loop-place.list ++ cons_option d [])
-    (made ∙ ap (λ id. blank_diff id c.args.area (c.in-Some.place.now, c.in-Some.cell.now)) c.get_sheet_id-id.ensures)) c.in_ok-push_diff.ensures.canonical
+    (output ∙ ap (λ id. blank_diff id c.args.area (c.in-Some.place.now, c.in-Some.cell.now)) c.get_sheet_id-id.ensures)) c.in_ok-push_diff.ensures.canonical
 
-pub returns-clause-made : goal.returns-clause-made
-returns-clause-made c = adds_all c.loop-place.invariant c.next.new.self c.in-None.is c.next.ensures.steps
+pub returns-clause-output : goal.returns-clause-output
+returns-clause-output c = adds_all c.loop-place.invariant c.next.new.self c.in-None.is c.next.ensures.steps
 
 pub returns-clause-canonical : goal.returns-clause-canonical
 returns-clause-canonical c = c.loop-place.invariant.canonical

@@ -34,5 +34,5 @@ one_plan p q is = cc
 pub returns : goal.returns
 returns c = record {
   planned = cleared_planned c.args.workbook.now c.args.sheet c.args.clearing c.args.area c.in_ok-found.found.now (sym (c.in_ok-found.ensures {u = _})) c.requires.rules c.in_ok-area.area (sym c.in_ok-area.ensures.area)
-      c.in_ok-plan.plan (one_plan _ _ c.in_ok-plan.ensures.plan.done) c.plan_list.result c.plan_list.ensures.made c.plan_list.ensures.canonical c.plan_list.ensures.only;
+      c.in_ok-plan.plan (one_plan _ _ c.in_ok-plan.ensures.plan.done) c.plan_list.result c.plan_list.ensures.output c.plan_list.ensures.canonical c.plan_list.ensures.only;
 }

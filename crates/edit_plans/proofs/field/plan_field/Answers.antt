@@ -20,5 +20,5 @@ returns c =
     let may : may_have c.args.value ≡ true = search rules in
     record {
       planned = field_planned c.args.workbook.now c.args.sheet c.args.value may c.requires.rules c.in_ok-found.found.now
-          (sym (c.in_ok-found.ensures {u = _})) c.field_list.result c.field_list.ensures.made c.field_list.ensures.canonical c.field_list.ensures.only;
+          (sym (c.in_ok-found.ensures {u = _})) c.field_list.result c.field_list.ensures.output c.field_list.ensures.canonical c.field_list.ensures.only;
     }

@@ -22,5 +22,5 @@ returns c =
     let to_fits : SFits w32 c.args.to = c.ranges.to in
     record {
       planned = fill_taken c.args.axis c.args.area.now c.args.to c.args.language c.args.workbook.now c.requires.rules c.in_ok-found.found.now (sym (c.in_ok-found.ensures {u = _}))
-          c.in_ok-plan.plan (simp to_z-of_z at (c.in_ok-plan.ensures {u = _}).planned) c.fill_list.result c.fill_list.ensures.made c.fill_list.ensures.canonical c.fill_list.ensures.only;
+          c.in_ok-plan.plan (simp to_z-of_z at (c.in_ok-plan.ensures {u = _}).planned) c.fill_list.result c.fill_list.ensures.output c.fill_list.ensures.canonical c.fill_list.ensures.only;
     }

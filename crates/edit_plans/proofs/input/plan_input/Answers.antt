@@ -36,5 +36,5 @@ returns c =
     record {
       planned = input_planned c.args.workbook.now c.args.sheet c.args.row c.args.column c.args.content c.args.feeds c.requires.rules c.requires.input
           c.in_ok-found.found.now c.in_ok-place.place (sym (c.in_ok-found.ensures {u = _})) (sym goes)
-          c.input_list.result c.input_list.ensures.made c.input_list.ensures.canonical c.input_list.ensures.only;
+          c.input_list.result c.input_list.ensures.output c.input_list.ensures.canonical c.input_list.ensures.only;
     }

@@ -29,19 +29,19 @@ returns-in_err-count c =
       planned = attrs_refused c.args.workbook.now c.args.sheet c.args.axis c.args.first c.args.last c.in_ok-found.found.now (sym (c.in_ok-found.ensures {u = _})) c.args.change c.in_err-count.field-0.0 (sym outside);
     })
 
-pub returns-in_err-made : goal.returns-in_err-made
-returns-in_err-made c =
+pub returns-in_err-output : goal.returns-in_err-output
+returns-in_err-output c =
     let first_fits : SFits w32 c.args.first = c.ranges.first in
     let last_fits : SFits w32 c.args.last = c.ranges.last in
     let end_fits : SFits w32 c.axis_end-end.result = search rules in
-    let p = err_from_is_err_and c.from_residual-in_err-made.result c.from_residual-in_err-made.ensures.1 in
-    let is = c.in_err-made.was in
+    let p = err_from_is_err_and c.from_residual-in_err-output.result c.from_residual-in_err-output.ensures.1 in
+    let is = c.in_err-output.was in
     let from = subst (λ (end : ℤ). ◌≡◌ {A = Result ℕ EditError} (Ok c.in_ok-count.count) (lines_from end c.args.first c.args.last)) c.axis_end-end.ensures.end (simp to_z-of_z at (c.in_ok-count.ensures {u = _}).count) in
     let planned = attrs_unchanged c.args.workbook.now c.args.sheet c.args.axis c.args.first c.args.last c.in_ok-found.found.now (sym (c.in_ok-found.ensures {u = _}))
-    c.in_ok-count.count (sym from) c.in_err-made.field-0.0 (λ short. c.requires.sure (is ∙ ap Err short)) in
+    c.in_ok-count.count (sym from) c.in_err-output.field-0.0 (λ short. c.requires.sure (is ∙ ap Err short)) in
     rw (p.1, p.2)
     (record {
-      planned = subst (λ (change : Result LineChange EditError). Plans (Err c.in_err-made.field-0.0) c.args.workbook.now (attrs_set c.args.sheet c.args.axis c.args.first c.args.last change c.args.workbook.now)) (sym is) planned;
+      planned = subst (λ (change : Result LineChange EditError). Plans (Err c.in_err-output.field-0.0) c.args.workbook.now (attrs_set c.args.sheet c.args.axis c.args.first c.args.last change c.args.workbook.now)) (sym is) planned;
     })
 
 pub returns : goal.returns
@@ -49,11 +49,11 @@ returns c =
     let first_fits : SFits w32 c.args.first = c.ranges.first in
     let last_fits : SFits w32 c.args.last = c.ranges.last in
     let end_fits : SFits w32 c.axis_end-end.result = search rules in
-    let is = c.in_ok-made.was in
-    let fits = subst (λ (r : Result LineChange EditError). IfOk r (λ made. IsTrue (change_fits c.args.axis made))) is c.requires.fits in
+    let is = c.in_ok-output.was in
+    let fits = subst (λ (r : Result LineChange EditError). IfOk r (λ output. IsTrue (change_fits c.args.axis output))) is c.requires.fits in
     let from = subst (λ (end : ℤ). ◌≡◌ {A = Result ℕ EditError} (Ok c.in_ok-count.count) (lines_from end c.args.first c.args.last)) c.axis_end-end.ensures.end (simp to_z-of_z at (c.in_ok-count.ensures {u = _}).count) in
     let planned = attrs_planned c.args.workbook.now c.args.sheet c.args.axis c.args.first c.args.last c.in_ok-found.found.now (sym (c.in_ok-found.ensures {u = _}))
-    c.in_ok-count.count (sym from) c.requires.rules c.in_ok-made.made fits c.line_list.result (simp to_z-of_z at c.line_list.ensures.made) c.line_list.ensures.canonical c.line_list.ensures.only in
+    c.in_ok-count.count (sym from) c.requires.rules c.in_ok-output.output fits c.line_list.result (simp to_z-of_z at c.line_list.ensures.output) c.line_list.ensures.canonical c.line_list.ensures.only in
     record {
       planned = subst (λ (change : Result LineChange EditError). Plans c.line_list.result c.args.workbook.now (attrs_set c.args.sheet c.args.axis c.args.first c.args.last change c.args.workbook.now)) (sym is) planned;
     }

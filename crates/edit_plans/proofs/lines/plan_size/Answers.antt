@@ -10,4 +10,4 @@ use Rattle.edit_plans.proofs.lines.plan_size.Goals as goal
 pub plan_change-requires-clause-fits : goal.plan_change-requires-clause-fits
 plan_change-requires-clause-fits c =
     let size_fit : SFits w32 c.args.size = c.ranges.size in
-    subst (λ (r : Result LineChange EditError). IfOk r (λ made. IsTrue (change_fits c.args.axis made))) (sym (simp to_z-of_z at c.size_change-change.ensures.change)) (size_fits c.args.axis c.args.size)
+    subst (λ (r : Result LineChange EditError). IfOk r (λ output. IsTrue (change_fits c.args.axis output))) (sym (simp to_z-of_z at c.size_change-change.ensures.change)) (size_fits c.args.axis c.args.size)

@@ -36,5 +36,5 @@ returns c =
     let goes = simp to_z-of_z at (c.in_ok-place.ensures {u = _}).place in
     record {
       planned = link_planned c.args.workbook.now c.args.sheet c.args.row c.args.column c.args.link c.requires.rules c.in_ok-found.found.now c.in_ok-place.place
-          (sym (c.in_ok-found.ensures {u = _})) (sym goes) c.link_list.result c.link_list.ensures.made c.link_list.ensures.canonical c.link_list.ensures.only;
+          (sym (c.in_ok-found.ensures {u = _})) (sym goes) c.link_list.result c.link_list.ensures.output c.link_list.ensures.canonical c.link_list.ensures.only;
     }

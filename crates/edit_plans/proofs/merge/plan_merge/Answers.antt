@@ -23,5 +23,5 @@ returns c =
     record {
       planned = merge_planned c.args.workbook.now c.args.sheet c.in_ok-found.found.now (sym (c.in_ok-found.ensures {u = _})) c.requires.rules
           c.merge_record.result c.merge_record.ensures.canonical c.merge_record.ensures.only c.args.area
-          (sym (c.in_ok-test_merge.ensures {u = _}).tested) c.merge_record.ensures.made;
+          (sym (c.in_ok-test_merge.ensures {u = _}).tested) c.merge_record.ensures.output;
     }

@@ -18,5 +18,5 @@ change_list-requires c = record {
 pub returns : goal.returns
 returns c = record {
   planned = change_planned (Add c.args.scope c.args.name.now c.args.formula.now) c.args.workbook.now c.requires.rules c.in_ok-change.change (c.in_ok-change.ensures {u = _}).change.done
-      c.change_list.result c.change_list.ensures.only c.change_list.ensures.made c.change_list.ensures.canonical;
+      c.change_list.result c.change_list.ensures.only c.change_list.ensures.output c.change_list.ensures.canonical;
 }

@@ -63,5 +63,5 @@ returns c =
           (λ (r : MergedCell). Returns {T = SheetPlan} (Ok c.in_ok-plan.plan)
           (planned_styles (tiled_range c.in_ok-area.area) (tiles styles (anchor_place r)) (λ place style. true) StyleValue c.in_ok-found.found.now))
           c.in_ok-area.ensures.same c.in_ok-plan.ensures.plan)
-          c.plan_list.result c.plan_list.ensures.made c.plan_list.ensures.canonical c.plan_list.ensures.only;
+          c.plan_list.result c.plan_list.ensures.output c.plan_list.ensures.canonical c.plan_list.ensures.only;
     }

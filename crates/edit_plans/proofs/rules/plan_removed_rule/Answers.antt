@@ -20,8 +20,8 @@ returns-in_err-change c =
 
 pub returns : goal.returns
 returns c =
-    let made = ap (map_ok (λ change. change ∷ [])) (c.in_ok-change.ensures {u = _}).change.done in
+    let output = ap (map_ok (λ change. change ∷ [])) (c.in_ok-change.ensures {u = _}).change.done in
     record {
       planned = rules_planned (Delete c.args.sheet c.args.index) c.args.workbook.now c.in_ok-found.found.now (sym (c.in_ok-found.ensures {u = _}))
-          (c.in_ok-change.change ∷ []) made c.requires.rules c.list_of_change.result c.list_of_change.ensures.only c.list_of_change.ensures.made c.list_of_change.ensures.canonical;
+          (c.in_ok-change.change ∷ []) output c.requires.rules c.list_of_change.result c.list_of_change.ensures.only c.list_of_change.ensures.output c.list_of_change.ensures.canonical;
     }

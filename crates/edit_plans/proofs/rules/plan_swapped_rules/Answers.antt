@@ -21,8 +21,8 @@ returns-in_err-changes c =
 
 pub returns : goal.returns
 returns c =
-    let made = ap (map_ok maybe_two) (c.in_ok-changes.ensures {u = _}).changes.done in
+    let output = ap (map_ok maybe_two) (c.in_ok-changes.ensures {u = _}).changes.done in
     record {
       planned = rules_planned (Swap c.args.sheet c.args.index_a c.args.index_b) c.args.workbook.now c.in_ok-found.found.now (sym (c.in_ok-found.ensures {u = _}))
-          (maybe_two c.in_ok-changes.changes) made c.requires.rules c.list_of_changes.result c.list_of_changes.ensures.only c.list_of_changes.ensures.made c.list_of_changes.ensures.canonical;
+          (maybe_two c.in_ok-changes.changes) output c.requires.rules c.list_of_changes.result c.list_of_changes.ensures.only c.list_of_changes.ensures.output c.list_of_changes.ensures.canonical;
     }

@@ -4,5 +4,5 @@ use Rattle.edit_plans.proofs.settings.plan_title.Goals as goal
 
 pub returns : goal.returns
 returns c = record {
-  planned = setting_planned (value.Name c.args.name.now) c.args.workbook.now c.requires.rules c.title_list.result c.title_list.ensures.only c.title_list.ensures.made c.title_list.ensures.canonical;
+  planned = setting_planned (value.Name c.args.name.now) c.args.workbook.now c.requires.rules c.title_list.result c.title_list.ensures.only c.title_list.ensures.output c.title_list.ensures.canonical;
 }

@@ -33,5 +33,5 @@ pub returns : goal.returns
 returns c = record {
   planned = copy_planned c.args.workbook.now c.args.sheet c.requires.rules c.in_ok-source.source.now c.in_ok-id.id
       (sym (c.in_ok-source.ensures {u = _})) (sym (c.in_ok-id.ensures {u = _})) c.list_of_one.result c.list_of_one.ensures.only
-      (subst (λ d. IfOk c.list_of_one.result (λ list. list ≡ d ∷ [])) (c.in_ok-diff.ensures {u = _}).made c.list_of_one.ensures.made) c.list_of_one.ensures.canonical;
+      (subst (λ d. IfOk c.list_of_one.result (λ list. list ≡ d ∷ [])) (c.in_ok-diff.ensures {u = _}).output c.list_of_one.ensures.output) c.list_of_one.ensures.canonical;
 }

@@ -28,5 +28,5 @@ returns c = record {
   planned = deletion_planned c.args.workbook.now c.args.sheet c.requires.rules c.in_ok-found.found.now (sym (c.in_ok-found.ensures {u = _}))
       (grind (arith, c.if-sheet_count-eq1.false, c.sheet_count.ensures))
       c.list_of_one.result c.list_of_one.ensures.only
-      (subst (λ d. IfOk c.list_of_one.result (λ list. list ≡ d ∷ [])) (c.in_ok-diff.ensures {u = _}).made c.list_of_one.ensures.made) c.list_of_one.ensures.canonical;
+      (subst (λ d. IfOk c.list_of_one.result (λ list. list ≡ d ∷ [])) (c.in_ok-diff.ensures {u = _}).output c.list_of_one.ensures.output) c.list_of_one.ensures.canonical;
 }

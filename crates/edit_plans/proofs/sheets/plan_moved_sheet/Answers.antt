@@ -20,6 +20,6 @@ returns c = record {
   planned = move_planned c.args.workbook.now c.args.from c.args.to c.requires.rules c.in_ok-found.found.now (sym (c.in_ok-found.ensures {u = _}))
       (omega (arith, c.if-to-sheet_count.false, c.sheet_count.ensures))
       c.list_of_one.result c.list_of_one.ensures.only
-      (subst (λ n. IfOk c.list_of_one.result (λ list. list ≡ MoveDiff n c.args.from c.args.to ∷ [])) c.get_sheet_id.ensures c.list_of_one.ensures.made)
+      (subst (λ n. IfOk c.list_of_one.result (λ list. list ≡ MoveDiff n c.args.from c.args.to ∷ [])) c.get_sheet_id.ensures c.list_of_one.ensures.output)
       c.list_of_one.ensures.canonical;
 }

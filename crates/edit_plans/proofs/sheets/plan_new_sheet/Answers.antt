@@ -23,5 +23,5 @@ returns-in_err-diff c =
 pub returns : goal.returns
 returns c = record {
   planned = new_planned c.args.workbook.now c.requires.rules c.in_ok-sheet.sheet (sym (c.in_ok-sheet.ensures {u = _})) c.list_of_one.result c.list_of_one.ensures.only
-      (subst (λ d. IfOk c.list_of_one.result (λ list. list ≡ d ∷ [])) (c.in_ok-diff.ensures {u = _}).made c.list_of_one.ensures.made) c.list_of_one.ensures.canonical;
+      (subst (λ d. IfOk c.list_of_one.result (λ list. list ≡ d ∷ [])) (c.in_ok-diff.ensures {u = _}).output c.list_of_one.ensures.output) c.list_of_one.ensures.canonical;
 }

@@ -28,5 +28,5 @@ returns c = record {
   planned = rename_planned c.args.workbook.now c.args.sheet c.args.name.now c.requires.rules c.in_ok-found.found.now (sym (c.in_ok-found.ensures {u = _}))
       (sym c.may_have.ensures ∙ c.if-not-may_have.false)
       c.list_of_one.result c.list_of_one.ensures.only
-      (subst (λ d. IfOk c.list_of_one.result (λ list. list ≡ d ∷ [])) (c.in_ok-diff.ensures {u = _}).made c.list_of_one.ensures.made) c.list_of_one.ensures.canonical;
+      (subst (λ d. IfOk c.list_of_one.result (λ list. list ≡ d ∷ [])) (c.in_ok-diff.ensures {u = _}).output c.list_of_one.ensures.output) c.list_of_one.ensures.canonical;
 }

@@ -42,5 +42,5 @@ returns c = record {
   planned = formats_plans c.args.workbook.now c.args.sheet c.args.area _
       (given_planned c.args.workbook.now c.args.sheet c.args.area (λ (area : MergedCell). whole_range area true) (λ place style. default_style) default_sized (λ place style. true) StyleValue c.in_ok-found.found.now (sym (c.in_ok-found.ensures {u = _}))
       c.in_ok-area.area (sym c.in_ok-area.ensures.area) _ (ap (λ (kind : AreaKind). record { area = c.in_ok-area.area; kind = kind; clears = true }) c.kind_of-kind.ensures) c.requires.rules refl c.in_ok-plan.plan c.in_ok-plan.ensures.plan
-      c.plan_list.result c.plan_list.ensures.made c.plan_list.ensures.canonical c.plan_list.ensures.only);
+      c.plan_list.result c.plan_list.ensures.output c.plan_list.ensures.canonical c.plan_list.ensures.only);
 }

@@ -40,5 +40,5 @@ returns c = record {
   planned = styles_plans c.args.workbook.now c.args.sheet c.args.area c.args.path.now c.args.value.now _
       (given_planned c.args.workbook.now c.args.sheet c.args.area (λ (area : MergedCell). whole_range area false) (updates c.args.path.now c.args.value.now) (updates_sized c.args.path.now c.args.value.now) (may_update c.args.path.now c.args.value.now) (update_refusal c.args.path.now c.args.value.now) c.in_ok-found.found.now (sym (c.in_ok-found.ensures {u = _}))
       c.in_ok-area.area (sym c.in_ok-area.ensures.area) _ (ap (λ (kind : AreaKind). record { area = c.in_ok-area.area; kind = kind; clears = false }) c.kind_of-kind.ensures) c.requires.rules refl c.in_ok-plan.plan c.in_ok-plan.ensures.plan
-      c.plan_list.result c.plan_list.ensures.made c.plan_list.ensures.canonical c.plan_list.ensures.only);
+      c.plan_list.result c.plan_list.ensures.output c.plan_list.ensures.canonical c.plan_list.ensures.only);
 }

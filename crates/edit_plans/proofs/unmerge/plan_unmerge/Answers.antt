@@ -35,5 +35,5 @@ returns c =
     record {
       planned = unmerge_planned c.args.workbook.now c.args.sheet c.in_ok-found.found.now (sym (c.in_ok-found.ensures {u = _})) c.requires.rules
           c.unmerge_record.result c.unmerge_record.ensures.canonical c.unmerge_record.ensures.only c.args.row c.args.column c.in_ok-place.place named
-          (sym goes) c.unmerge_record.ensures.made;
+          (sym goes) c.unmerge_record.ensures.output;
     }

@@ -3,4 +3,4 @@ use Rattle.format_rules.specs.RuleTrees.{color_changed}
 use Rattle.format_rules.proofs.changing.colors_changed.Given as goal
 
 abbrev pub invariant-loop-threshold : goal.invariant-loop-threshold
-invariant-loop-threshold g l = l.made ≡ map (color_changed (g.M.TreeChange.change_of l.fn.change)) (take l.threshold-index l.thresholds)
+invariant-loop-threshold g l = l.output ≡ map (color_changed (g.M.TreeChange.change_of l.fn.change)) (take l.threshold-index l.thresholds)

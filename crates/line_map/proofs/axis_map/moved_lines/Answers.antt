@@ -26,7 +26,7 @@ loop-line-preserved g c =
     let Line : ℤ → ℤ → Type 0 = λ last n. IsLine last n in (
       listed_on int_cmp_total int_cmp-IsAntisymmetric c.loop-line.invariant.0 (c.in-Some.line, c.in-Some.value) c.in-Some.is c.next.ensures.steps
           (λ q there. subst (λ n. Line n q) c.requires.last (subst Lands there (one_to_one.to_inside c.in-Some.line.now)))
-          (c.in_ok-put_last.ensures.items ∙ ap (λ o. c.loop-line.made ++ cons_option o [])
+          (c.in_ok-put_last.ensures.items ∙ ap (λ o. c.loop-line.output ++ cons_option o [])
           (c.in_ok-moved_entry.ensures.entry ∙ ap (λ (n : ℤ). entry_made moves.to (λ _ _ x. Some x) (n, c.in-Some.value.now)) key)),
       rest_hold (λ e. IsLine g.B.Axis.along.last e.0) c.loop-line.invariant.1 turn,
     )
@@ -37,6 +37,6 @@ of_entries-requires g c = record { inside = c.loop-line.invariant.0.inside }
 pub returns-clause-map : goal.returns-clause-map
 returns-clause-map g c =
     IfOk-weaker c.of_entries.result _ _
-    (λ made is. is ∙ listed_all int_cmp_total int_cmp-IsAntisymmetric c.loop-line.invariant.0
+    (λ output is. is ∙ listed_all int_cmp_total int_cmp-IsAntisymmetric c.loop-line.invariant.0
     (g.met.M.LineMap.one_to_one c.args.lines.now c.requires.valid).inverse c.next.new.self c.in-None.is c.next.ensures.steps)
     c.of_entries.ensures.map

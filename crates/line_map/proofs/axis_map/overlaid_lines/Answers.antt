@@ -30,7 +30,7 @@ loop-line-preserved g c =
     let last = g.met.B.Axis.lawful.last_high in
     let key : to_z w32 (of_z w32 c.in-Some.line.now) ≡ c.in-Some.line.now = omega (arith, ints, on.0, on.1, last) in
     laid_on int_cmp_total int_cmp-IsAntisymmetric c.loop-line.invariant (c.in-Some.line, c.in-Some.value) c.in-Some.is c.next.ensures.steps
-    (c.in_ok-put_line.ensures.map ∙ ap (λ (n : ℤ). insert c.loop-line.made n c.in-Some.value.now) key)
+    (c.in_ok-put_line.ensures.map ∙ ap (λ (n : ℤ). insert c.loop-line.output n c.in-Some.value.now) key)
 
 pub returns-clause-map : goal.returns-clause-map
 returns-clause-map g c = laid_all int_cmp_total int_cmp-IsAntisymmetric c.loop-line.invariant c.next.new.self c.in-None.is c.next.ensures.steps

@@ -26,7 +26,7 @@ loop-from-preserved g c =
     (c.in-Some.from, c.in-Some.item) c.in-Some.is c.next.ensures.steps) in (
       listed_on position_total exact_positions c.loop-from.invariant.0 (c.in-Some.from, c.in-Some.item) c.in-Some.is c.next.ensures.steps
           (λ q there. goes_there (way c.args.route.now) c.is_way.ensures c.in-Some.from.now q inside there)
-          (c.in_ok-put_last.ensures.items ∙ ap (λ o. c.loop-from.made ++ cons_option o []) c.in_ok-entry.ensures.carried),
+          (c.in_ok-put_last.ensures.items ∙ ap (λ o. c.loop-from.output ++ cons_option o []) c.in_ok-entry.ensures.carried),
       (
         made_on position_total exact_positions c.loop-from.invariant.1.0 own_inverse (c.in-Some.from, c.in-Some.item) c.in-Some.is c.next.ensures.steps
             (c.in_ok-put_made.ensures.map ∙ ap (λ e. with_made e c.loop-from.lost) c.in_ok-entry.ensures.lost),

@@ -23,12 +23,12 @@ loop-from-preserved g c =
     (c.in-Some.from, c.in-Some.item) c.in-Some.is c.next.ensures.steps) in
     listed_on position_total exact_positions c.loop-from.invariant (c.in-Some.from, c.in-Some.item) c.in-Some.is c.next.ensures.steps
     (λ q there. goes_there (way c.args.route.now) c.is_way.ensures c.in-Some.from.now q inside there)
-    (c.in_ok-put_last.ensures.items ∙ ap (λ o. c.loop-from.made ++ cons_option o []) c.in_ok-carried_entry.ensures.entry)
+    (c.in_ok-put_last.ensures.items ∙ ap (λ o. c.loop-from.output ++ cons_option o []) c.in_ok-carried_entry.ensures.entry)
 
 pub of_entries-requires : goal.of_entries-requires
 of_entries-requires g c = record { inside = c.loop-from.invariant.inside }
 
 pub returns-clause-map : goal.returns-clause-map
 returns-clause-map g c =
-    IfOk-weaker c.of_entries.result _ _ (λ made is. is ∙ listed_all position_total exact_positions c.loop-from.invariant
+    IfOk-weaker c.of_entries.result _ _ (λ output is. is ∙ listed_all position_total exact_positions c.loop-from.invariant
     (goes_inverse (way c.args.route.now) c.is_way.ensures) c.next.new.self c.in-None.is c.next.ensures.steps) c.of_entries.ensures.map

@@ -25,7 +25,7 @@ loop-to-preserved g c =
     (c.in-Some.to, c.in-Some.item) c.in-Some.is c.next.ensures.steps) in
     listed_on position_total exact_positions c.loop-to.invariant (c.in-Some.to, c.in-Some.item) c.in-Some.is c.next.ensures.steps
     (λ q there. goes_there (back w) (back_is_way w c.is_way.ensures) c.in-Some.to.now q inside there)
-    (c.in_ok-put_last.ensures.items ∙ ap (λ o. c.loop-to.made ++ cons_option o []) c.in_ok-restored_entry.ensures.entry)
+    (c.in_ok-put_last.ensures.items ∙ ap (λ o. c.loop-to.output ++ cons_option o []) c.in_ok-restored_entry.ensures.entry)
 
 pub of_entries-requires : goal.of_entries-requires
 of_entries-requires g c = record { inside = c.loop-to.invariant.inside }
@@ -33,6 +33,6 @@ of_entries-requires g c = record { inside = c.loop-to.invariant.inside }
 pub returns-clause-map : goal.returns-clause-map
 returns-clause-map g c =
     IfOk-weaker c.of_entries.result _ _
-    (λ made is. is ∙ listed_all position_total exact_positions c.loop-to.invariant
+    (λ output is. is ∙ listed_all position_total exact_positions c.loop-to.invariant
     (turned_inverse (goes_inverse (way c.args.route.now) c.is_way.ensures)) c.next.new.self c.in-None.is c.next.ensures.steps)
     c.of_entries.ensures.map

@@ -11,4 +11,4 @@ invariant-loop-to g l =
     Listed IsPlace deref_pair (place_goes (back (way l.fn.route)))
     (λ q p x. Some (settled (g.F.Follower.carry_of (back (at (way l.fn.route) p q))) (g.F.Follower.restore_of (at (way l.fn.route) p q))
     (g.L.Parts.part_at l.fn.parts p) x))
-    l.fn.map l.yielded l.to-iterator l.made
+    l.fn.map l.yielded l.to-iterator l.output

@@ -5,4 +5,4 @@ use Rattle.line_routes.specs.Way.{way}
 use Rattle.line_routes.proofs.merges.merges_left.Given as goal
 
 abbrev pub invariant-loop-merge : goal.invariant-loop-merge
-invariant-loop-merge g l = l.made ≡ filter_map (merge_carried (way l.route)) (take l.merge-index l.merges)
+invariant-loop-merge g l = l.output ≡ filter_map (merge_carried (way l.route)) (take l.merge-index l.merges)

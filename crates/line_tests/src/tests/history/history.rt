@@ -100,8 +100,8 @@ fn cell_and_row(alloc: Global) -> Result<DiffList, EditError>
 }
 
 /// Whether a list is refused for the diff of that number.
-fn is_refused(made: Result<Workbook, EditError>, diff: u64) -> bool {
-    match made {
+fn is_refused(output: Result<Workbook, EditError>, diff: u64) -> bool {
+    match output {
         Err(error) => error == EditError::DiffRefused { entry: 0, diff },
         Ok(_) => false,
     }

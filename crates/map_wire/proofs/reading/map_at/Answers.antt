@@ -11,5 +11,5 @@ pub returns : goal.returns
 returns g c =
     let same = g.met.X.MapKey.ordered in
     reads (map_format (order_total same g.met.X.Key.Ord.total) (order_exact same g.met.X.Key.Exact.equals g.met.X.Key.Ord.matches_eq) g.met.K.Part.format g.met.P.Part.format g.met.K.Part.some
-    g.X.MapKey.seen g.X.MapKey.made g.X.MapKey.seen_made g.X.MapKey.made_seen)
+    g.X.MapKey.seen g.X.MapKey.model g.X.MapKey.seen_model g.X.MapKey.model_seen)
     c.args.bytes.now _ (λ i. omega (arith, c.type_inv.bytes i)) c.map_by_steps.ensures

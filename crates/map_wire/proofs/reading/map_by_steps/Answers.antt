@@ -12,6 +12,6 @@ pub returns : goal.returns
 returns g c =
     let same = g.met.X.MapKey.ordered in
     let in_turn = put_in_turn g.X.MapKey.order (order_total same g.met.X.Key.Ord.total) (order_exact same g.met.X.Key.Exact.equals g.met.X.Key.Ord.matches_eq) c.in_ok-entries.entries c.in_ok-entries.ensures.sorted in
-    let made : g.X.MapKey.made (from_entries {R = g.X.MapKey.order} c.in_ok-entries.entries) ≡ c.in_ok-map.map =
-    ap g.X.MapKey.made (sym (c.in_ok-map.ensures.map ∙ in_turn)) ∙ g.X.MapKey.made_seen c.in_ok-map.map in
-    record { done = rw c.in_ok-entries.ensures.read.done (ap (λ map. Ok (map, c.in_ok-entries.rest.now)) made); refused = tt }
+    let model : g.X.MapKey.model (from_entries {R = g.X.MapKey.order} c.in_ok-entries.entries) ≡ c.in_ok-map.map =
+    ap g.X.MapKey.model (sym (c.in_ok-map.ensures.map ∙ in_turn)) ∙ g.X.MapKey.model_seen c.in_ok-map.map in
+    record { done = rw c.in_ok-entries.ensures.read.done (ap (λ map. Ok (map, c.in_ok-entries.rest.now)) model); refused = tt }

@@ -13,7 +13,7 @@ returns-clause-book c =
     let w = c.args.workbook.now in
     let kept = c.args.kept.now in
     let name = c.in_ok-old.ensures.name in
-    IfOk-weaker c.with_lists.result _ _ (λ made is. is ∙ (λ i. record w {
+    IfOk-weaker c.with_lists.result _ _ (λ output is. is ∙ (λ i. record w {
       names = (c.in_ok-laid.ensures.names ∙ (λ j. names_back Nothing (name j) c.args.new.now (get kept.names) c.args.names.now)) i;
       worksheets = (c.in_ok-sheets.ensures.sheets ∙ (λ j. map (sheet_returned c.args.index (name j) c.args.new.now (c.defined_names.ensures.names j) kept) (c.worksheets.ensures j))) i;
     })) c.with_lists.ensures.book
@@ -22,4 +22,4 @@ pub returns-clause-placed : goal.returns-clause-placed
 returns-clause-placed c =
     let w = c.args.workbook.now in
     IfOk-weaker c.with_lists.result _ _
-    (λ made is. subst IsPlacedBook (sym is) (placed_book_back c.args.index c.args.old.now c.args.new.now w.names c.args.kept.now c.requires.trees w.worksheets c.requires.placed)) (returns-clause-book c)
+    (λ output is. subst IsPlacedBook (sym is) (placed_book_back c.args.index c.args.old.now c.args.new.now w.names c.args.kept.now c.requires.trees w.worksheets c.requires.placed)) (returns-clause-book c)

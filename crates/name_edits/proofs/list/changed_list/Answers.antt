@@ -5,5 +5,5 @@ use Rattle.name_edits.proofs.list.changed_list.Goals as goal
 
 pub new-requires : goal.new-requires
 new-requires c =
-    subst AreCanonicalNames (sym c.in_ok-made.ensures.names)
+    subst AreCanonicalNames (sym c.in_ok-output.ensures.names)
     (names_numbers c.args.change.now c.as_slice.result.now c.as_slice.ensures.canonical c.requires.numbers.new)

@@ -9,5 +9,5 @@ pub returns-clause-canonical : goal.returns-clause-canonical
 returns-clause-canonical g c =
     let kept = subst CanonicalCells c.cell_map-there.ensures.map c.cell_map-there.ensures.canonical in
     IfOk-weaker c.plan_range.result _ _
-    (λ cells made. subst CanonicalCellPlan (sym made) (styled_canonical c.args.sheet.now kept c.args.range (g.C.StyleChange.made_of c.args.change.now)))
-    c.plan_range.ensures.made
+    (λ cells output. subst CanonicalCellPlan (sym output) (styled_canonical c.args.sheet.now kept c.args.range (g.C.StyleChange.made_of c.args.change.now)))
+    c.plan_range.ensures.output

@@ -17,5 +17,5 @@ pub returns-clause-canonical : goal.returns-clause-canonical
 returns-clause-canonical c =
     let kept = subst CanonicalCells c.cell_map-there.ensures.map c.cell_map-there.ensures.canonical in
     IfOk-weaker c.plan_there.result _ _
-    (λ cells made. subst CanonicalCellPlan (sym made) (cleared_canonical c.args.sheet.now kept c.args.clearing c.args.area))
-    c.plan_there.ensures.made
+    (λ cells output. subst CanonicalCellPlan (sym output) (cleared_canonical c.args.sheet.now kept c.args.clearing c.args.area))
+    c.plan_there.ensures.output

@@ -4,4 +4,4 @@ use Rattle.rule_lines.specs.Rules.{formatting_carried}
 use Rattle.rule_lines.proofs.rules.carried_items.Given as goal
 
 abbrev pub invariant-loop-formatting : goal.invariant-loop-formatting
-invariant-loop-formatting g l = l.made ≡ map (formatting_carried (way l.route)) (take l.formatting-index l.rules)
+invariant-loop-formatting g l = l.output ≡ map (formatting_carried (way l.route)) (take l.formatting-index l.rules)

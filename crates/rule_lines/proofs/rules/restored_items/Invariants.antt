@@ -4,4 +4,4 @@ use Rattle.rule_lines.specs.Rules.{rules_restored}
 use Rattle.rule_lines.proofs.rules.restored_items.Given as goal
 
 abbrev pub invariant-loop-place : goal.invariant-loop-place
-invariant-loop-place g l = l.made ≡ rules_restored (way l.route) l.kept (take l.place l.rules)
+invariant-loop-place g l = l.output ≡ rules_restored (way l.route) l.kept (take l.place l.rules)

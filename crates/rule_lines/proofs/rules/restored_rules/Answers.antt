@@ -6,5 +6,5 @@ use Rattle.rule_lines.proofs.rules.restored_rules.Goals as goal
 
 pub new-requires : goal.new-requires
 new-requires g c =
-    subst AreCanonicalRules (sym c.in_ok-made.ensures.rules)
+    subst AreCanonicalRules (sym c.in_ok-output.ensures.rules)
     (restored_numbers (way c.args.route.now) c.args.kept.now c.requires.numbers c.as_slice.result.now c.as_slice.ensures.canonical)

@@ -24,8 +24,8 @@ returns-in_err-rule-clause-next c =
 
 pub returns-clause-next : goal.returns-clause-next
 returns-clause-next c = λ state stands.
-    let made = rule_is c.args.named c.args.text.now c.args.model.now.document state c.in_ok-formula.formula c.in_ok-rule.rule stands (c.in_ok-formula.ensures {u = _}).read.done (c.in_ok-rule.ensures {u = _}).made in
+    let value = rule_is c.args.named c.args.text.now c.args.model.now.document state c.in_ok-formula.formula c.in_ok-rule.rule stands (c.in_ok-formula.ensures {u = _}).read.done (c.in_ok-rule.ensures {u = _}).value in
     moves_turn _ _ _
     (subst
     (λ (rule : CfRule). Moves c.add_conditional_formatting.result c.add_conditional_formatting.new.self.document (edit_of (EditRules (Add c.args.named.sheet (c.args.named.area ∷ []) rule)) state))
-    made (c.add_conditional_formatting.ensures.next state stands))
+    value (c.add_conditional_formatting.ensures.next state stands))

@@ -33,10 +33,10 @@ loop-index-preserved g c =
     let more : c.loop-index.index + 1 ≡ suc c.loop-index.index = omega arith in
     let first : to_z w32 (of_z w32 c.first_line-first.result) ≡ first_line a target = search rules in
     let at = c.place_across-at.ensures.place ∙ ap (λ line. place_across a target line c.loop-index.index) first in
-    let made = place_filled a fill.range fill.locale fill.language fill.sheet.now in
+    let output = place_filled a fill.range fill.locale fill.language fill.sheet.now in
     let linked = place_linked a fill.range fill.sheet.now in
     record {
-      cells = c.in_ok-put_line.ensures.cells ∙ (λ i. targets_put made a fill.range (c.loop-index.invariant.cells i) (at i) (lines a target)) ∙ sym (ap (across_put made a fill.range) more);
+      cells = c.in_ok-put_line.ensures.cells ∙ (λ i. targets_put output a fill.range (c.loop-index.invariant.cells i) (at i) (lines a target)) ∙ sym (ap (across_put output a fill.range) more);
       links = c.in_ok-put_line.ensures.links ∙ (λ i. targets_put linked a fill.range (c.loop-index.invariant.links i) (at i) (lines a target)) ∙ sym (ap (across_put linked a fill.range) more);
       canonical = c.in_ok-put_line.ensures.canonical;
     }

@@ -15,11 +15,11 @@ loop-index-preserved g c =
     let fill = c.args.fill.now in
     let a = g.A.Axis.along in
     let more : c.loop-index.index + 1 ≡ suc c.loop-index.index = omega arith in
-    let made = place_filled a fill.range fill.locale fill.language fill.sheet.now in
+    let output = place_filled a fill.range fill.locale fill.language fill.sheet.now in
     let linked = place_linked a fill.range fill.sheet.now in
     let here = target_place a fill.range c.args.at c.loop-index.index in
     record {
-      cells = c.in_ok-put_target.ensures.cells ∙ (λ i. put_one made (c.loop-index.invariant.cells i) here) ∙ sym (ap (targets_put made a fill.range c.args.cells.now c.args.at) more);
+      cells = c.in_ok-put_target.ensures.cells ∙ (λ i. put_one output (c.loop-index.invariant.cells i) here) ∙ sym (ap (targets_put output a fill.range c.args.cells.now c.args.at) more);
       links = c.in_ok-put_target.ensures.links ∙ (λ i. put_one linked (c.loop-index.invariant.links i) here) ∙ sym (ap (targets_put linked a fill.range c.args.links.now c.args.at) more);
       counted = c.counted-number.ensures ∙ (λ i. c.loop-index.invariant.counted i + (if c.repeats_hidden-is_covered.ensures i then 0 else 1))
           ∙ sym (ap (open_count a fill.range fill.sheet.now c.args.at) more);

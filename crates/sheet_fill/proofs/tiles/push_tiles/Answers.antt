@@ -6,13 +6,13 @@ use Rattle.sheet_fill.specs.Tiles.{tile_in}
 use Rattle.sheet_fill.proofs.tiles.push_tiles.Goals as goal
 
 -- one more merge's tile behind the others
-one_more : (made : MergedCell → Option MergedCell) (first list new merges : List MergedCell) (i : ℕ) (d : MergedCell) → i < length merges
-    → new ≡ list ++ cons_option (made (get_or merges i d)) [] → list ≡ first ++ filter_map made (take i merges)
-    → new ≡ first ++ filter_map made (take (i + 1) merges)
-one_more made first list new merges i d within step before =
-    step ∙ ap (λ xs. xs ++ cons_option (made (get_or merges i d)) []) before
-    ∙ append_assoc first (filter_map made (take i merges)) (cons_option (made (get_or merges i d)) [])
-    ∙ ap (λ xs. first ++ xs) (sym (one_left made merges i d within))
+one_more : (output : MergedCell → Option MergedCell) (first list new merges : List MergedCell) (i : ℕ) (d : MergedCell) → i < length merges
+    → new ≡ list ++ cons_option (output (get_or merges i d)) [] → list ≡ first ++ filter_map output (take i merges)
+    → new ≡ first ++ filter_map output (take (i + 1) merges)
+one_more output first list new merges i d within step before =
+    step ∙ ap (λ xs. xs ++ cons_option (output (get_or merges i d)) []) before
+    ∙ append_assoc first (filter_map output (take i merges)) (cons_option (output (get_or merges i d)) [])
+    ∙ ap (λ xs. first ++ xs) (sym (one_left output merges i d within))
 
 pub loop-merge-preserved : goal.loop-merge-preserved
 loop-merge-preserved g c =

@@ -4,5 +4,5 @@ use Rattle.sheet_history.proofs.apply.forward_in_place.Goals as goal
 pub make-requires-clause-placed : goal.make-requires-clause-placed
 make-requires-clause-placed c = placed_by_rules c.args.workbook.now c.requires.rules
 
-pub made-requires-clause-placed : goal.made-requires-clause-placed
-made-requires-clause-placed c = placed_by_rules c.args.workbook.now c.requires.rules
+pub later_book-requires-clause-placed : goal.later_book-requires-clause-placed
+later_book-requires-clause-placed c = placed_by_rules c.args.workbook.now c.requires.rules

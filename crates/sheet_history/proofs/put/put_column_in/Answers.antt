@@ -1,6 +1,6 @@
 use Rattle.std.proofs.Common.{Option, pos, ap, subst, w32, SFits, ◌∙◌}
 use Rattle.std.specs.Option.{option_map}
-use Rattle.sheet_grid.specs.Lines.{kept_line, line_of_column}
+use Rattle.sheet_grid.specs.Lines.{stored_line, line_of_column}
 use Rattle.std.proofs.lemmas.Int.{to_z-of_z}
 use Rattle.base_values.specs.declared.EditError.TheVariants.{InvalidColumn}
 use Rattle.base_values.specs.Answers.{Changes, map_ok}
@@ -17,5 +17,5 @@ returns c =
     let changes =
     subst (λ (entry : Option LineAttr). Changes c.put_column.result c.args.sheet.now c.put_column.new.self
     (map_ok (λ line. record c.args.sheet.now { columns = with_entry c.args.sheet.now.columns line entry }) (line_of (pos 16384) c.args.column InvalidColumn)))
-    (ap (λ (attr : Option ColumnAttr). kept_line (option_map line_of_column attr)) (c.in_ok-attr.ensures {u = _}).made ∙ kept_column c.args.entry.now c.requires) (simp to_z-of_z at c.put_column.ensures) in
+    (ap (λ (attr : Option ColumnAttr). stored_line (option_map line_of_column attr)) (c.in_ok-attr.ensures {u = _}).output ∙ kept_column c.args.entry.now c.requires) (simp to_z-of_z at c.put_column.ensures) in
     record { done = changes.done; refused = changes.refused }

@@ -1,6 +1,6 @@
 use Rattle.std.proofs.Common.{Option, pos, ap, subst, w32, SFits, ◌∙◌}
 use Rattle.std.specs.Option.{option_map}
-use Rattle.sheet_grid.specs.Lines.{kept_line, line_of_row}
+use Rattle.sheet_grid.specs.Lines.{stored_line, line_of_row}
 use Rattle.std.proofs.lemmas.Int.{to_z-of_z}
 use Rattle.base_values.specs.declared.EditError.TheVariants.{InvalidRow}
 use Rattle.base_values.specs.Answers.{Changes, map_ok}
@@ -17,5 +17,5 @@ returns c =
     let changes =
     subst (λ (entry : Option LineAttr). Changes c.put_row.result c.args.sheet.now c.put_row.new.self
     (map_ok (λ line. record c.args.sheet.now { rows = with_entry c.args.sheet.now.rows line entry }) (line_of (pos 1048576) c.args.row InvalidRow)))
-    (ap (λ (attr : Option RowAttr). kept_line (option_map line_of_row attr)) (c.in_ok-attr.ensures {u = _}).made ∙ kept_row c.args.entry.now c.requires) (simp to_z-of_z at c.put_row.ensures.put) in
+    (ap (λ (attr : Option RowAttr). stored_line (option_map line_of_row attr)) (c.in_ok-attr.ensures {u = _}).output ∙ kept_row c.args.entry.now c.requires) (simp to_z-of_z at c.put_row.ensures.put) in
     record { done = changes.done; refused = changes.refused }

@@ -12,7 +12,7 @@ returns-clause-workbook g c =
     let a = g.A.Axis.along in
     let by = c.edited_by-edited.ensures in
     IfOk-weaker c.with_worksheets.result _ _ (λ book is. is ∙ (λ i. record c.args.workbook.now {
-      worksheets = (c.in_ok-made.ensures.sheets ∙ (λ j. map (λ sheet. sheet_back
+      worksheets = (c.in_ok-output.ensures.sheets ∙ (λ j. map (λ sheet. sheet_back
           (way_of a (edit_moves a.last (by.map j).kind) (by.id j) (by.name j) sheet) c.args.kept.now sheet) (c.worksheets.ensures j))) i;
     })) c.with_worksheets.ensures.book
 

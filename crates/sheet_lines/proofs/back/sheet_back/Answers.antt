@@ -23,7 +23,7 @@ pub returns-clause-sheet : goal.returns-clause-sheet
 returns-clause-sheet g c =
     let kept = c.args.kept.now in
     let to = c.route_on-route.ensures.way in
-    IfOk-weaker c.with_entries.result _ _ (λ made is. is ∙ (λ i. record c.args.sheet.now {
+    IfOk-weaker c.with_entries.result _ _ (λ output is. is ∙ (λ i. record c.args.sheet.now {
       cells = (c.in_ok-cells.ensures.map ∙ (λ j. with_lost (to j) kept.cells
           (places_restored cell_carried (λ _ cell tree. cell_restored cell tree) (to j)
           (λ place. get kept.formulas (place_on (c.get_sheet_id-id.ensures j) place)) (c.cell_map-cells.ensures.map j)))) i;

@@ -78,7 +78,7 @@ loop-sheet-preserved g c =
         (
           c.in_ok-kept.ensures.formulas
               ∙ (λ j. put_under c.sheet-item.result.id (kept.trees j) (c.loop-sheet.invariant.1.1.0 j))
-              ∙ sym (fold_more (λ made sheet. put_under sheet.id (trees_of sheet) made) empty sheets i c.sheet-item.result within
+              ∙ sym (fold_more (λ output sheet. put_under sheet.id (trees_of sheet) output) empty sheets i c.sheet-item.result within
               ∙ ap (λ sheet. put_under sheet.id (trees_of sheet) (formulas_kept a moves edited.id edited.name.now
               (take i sheets))) (sym c.sheet-item.is)),
           subst AreCanonicalFormulas (sym c.in_ok-kept.ensures.formulas)

@@ -3,6 +3,6 @@ use Rattle.base_values.specs.Answers.{Edits}
 use Rattle.user_model.proofs.Recording.{untested}
 use Rattle.user_model.proofs.install.follow.Goals as goal
 
-pub returns-then-kept : goal.returns-then-kept
-returns-then-kept c =
-    subst (Edits c.follow_untested.result c.args.workbook.now c.follow_untested.new.workbook) (untested c.args.kind c.args.workbook.now c.args.list.now (c.requires.works c.if-kept.true)) c.follow_untested.ensures
+pub returns-then-known : goal.returns-then-known
+returns-then-known c =
+    subst (Edits c.follow_untested.result c.args.workbook.now c.follow_untested.new.workbook) (untested c.args.kind c.args.workbook.now c.args.list.now (c.requires.works c.if-known.true)) c.follow_untested.ensures

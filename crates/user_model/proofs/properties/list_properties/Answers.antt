@@ -11,6 +11,6 @@ loop-sheet-preserved c =
     let sheet = c.sheet-item.result in
     let within : i < length sheets = omega arith in
     c.in_ok-push.ensures.ok
-    ∙ (λ j. c.loop-sheet.invariant j ++ c.in_ok-properties.ensures.made j ∷ [])
+    ∙ (λ j. c.loop-sheet.invariant j ++ c.in_ok-properties.ensures.output j ∷ [])
     ∙ ap (λ (other : Sheet). map properties_of (take i sheets) ++ properties_of other ∷ []) c.sheet-item.is
     ∙ sym (map_more properties_of sheets i sheet within)

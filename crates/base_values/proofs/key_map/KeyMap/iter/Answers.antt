@@ -4,7 +4,7 @@ use Rattle.base_values.proofs.Seen.{entries-seen}
 use Rattle.base_values.proofs.key_map.KeyMap.iter.Goals as goal
 
 pub returns-clause-entries : goal.returns-clause-entries
-returns-clause-entries g c = c.iter.ensures.rest ∙ entries-seen g.met.K.MapKey.ordered g.met.K.Key.Ord.total g.met.K.Key.Exact.equals g.met.K.Key.Ord.matches_eq g.K.MapKey.made g.K.MapKey.seen g.K.MapKey.seen_made c.self.inside.map c.args.self.now c.self.view_is c.self.invariant.ordered
+returns-clause-entries g c = c.iter.ensures.rest ∙ entries-seen g.met.K.MapKey.ordered g.met.K.Key.Ord.total g.met.K.Key.Exact.equals g.met.K.Key.Ord.matches_eq g.K.MapKey.model g.K.MapKey.seen g.K.MapKey.seen_model c.self.inside.map c.args.self.now c.self.view_is c.self.invariant.ordered
 
 pub returns-clause-inside : goal.returns-clause-inside
 returns-clause-inside g c = rw c.iter.ensures.rest (All-unmap g.K.MapKey.fits (λ e. e.0) _ c.self.invariant.inside)

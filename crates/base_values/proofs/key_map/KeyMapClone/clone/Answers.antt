@@ -10,5 +10,5 @@ invariant_of-result g c =
 
 pub returns : goal.returns
 returns g c = record {
-  cases = ap (λ es. g.K.MapKey.made (from_entries es)) (cloned g.met.K.Key.Exact.copies g.met.V.Exact.copies c.self.inside.map.entries c.in_ok-clone.field-0.entries c.in_ok-clone.ensures.cases) ∙ c.self.view_is;
+  cases = ap (λ es. g.K.MapKey.model (from_entries es)) (cloned g.met.K.Key.Exact.copies g.met.V.Exact.copies c.self.inside.map.entries c.in_ok-clone.field-0.entries c.in_ok-clone.ensures.cases) ∙ c.self.view_is;
 }

@@ -12,7 +12,7 @@ install_viewed-requires-clause-rules g c = reached_rules (document_in c.args.sel
 pub install_viewed-requires-clause-works : goal.install_viewed-requires-clause-works
 install_viewed-requires-clause-works g c = λ kept.
     let newest = c.in-Some.ensures.newest in
-    redo_works (document_in c.args.self.now) c.requires c.in-Some.list.now newest.0 (sym (c.in_ok-make_room.ensures {u = _}).redo ∙ newest.1) (sym c.has_redo_step-kept.ensures ∙ kept)
+    redo_works (document_in c.args.self.now) c.requires c.in-Some.list.now newest.0 (sym (c.in_ok-make_room.ensures {u = _}).redo ∙ newest.1) (sym c.has_redo_step-is_recorded.ensures ∙ kept)
 
 pub returns-in-Err-clause-document : goal.returns-in-Err-clause-document
 returns-in-Err-clause-document g c =
@@ -34,6 +34,6 @@ returns-clause-document g c =
     let counted = c.redo_counted-counts.ensures in
     record {
       done = made_again doc c.in-Some.list.now newest.0 c.make_room.new.history _ _ _ _ _ c.redo_counted-counts.new.history _ room.undo room.redo (sym room.redo ∙ newest.1) (c.in_default-install_viewed.ensures {u = _}).installed.done
-          (c.in_default-install_viewed.ensures {u = _}).seen (c.in_ok-enqueue.ensures {u = _}).sent c.has_redo_step-kept.ensures counted.undo counted.redo counted.stale_undo counted.stale_redo;
+          (c.in_default-install_viewed.ensures {u = _}).seen (c.in_ok-enqueue.ensures {u = _}).sent c.has_redo_step-is_recorded.ensures counted.undo counted.redo counted.stale_undo counted.stale_redo;
       refused = tt;
     }

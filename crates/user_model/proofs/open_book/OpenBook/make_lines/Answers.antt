@@ -46,7 +46,7 @@ returns-clause-document g c =
     let doc = document_in c.args.self.now in
     let kind = c.args.edit.now.kind in
     let record_is =
-    list_is _ c.args.axis c.requires.along kind c.args.id c.in_ok-later.kept c.args.self.now.workbook it.kept c.in_ok-list.list (c.in_ok-list.ensures {u = _}).made.done in
+    list_is _ c.args.axis c.requires.along kind c.args.id c.in_ok-later.kept c.args.self.now.workbook it.kept c.in_ok-list.list (c.in_ok-list.ensures {u = _}).output.done in
     subst (Edits c.put_later.result doc (document_in c.put_later.new.self))
     (installed_document _ c.args.axis c.requires.along kind c.args.id doc c.in_ok-later.later c.in_ok-list.list it.workbook record_is) c.put_later.ensures.document
 
@@ -54,5 +54,5 @@ pub returns-clause-spellable : goal.returns-clause-spellable
 returns-clause-spellable g c =
     let it = c.in_ok-later.ensures {u = _} in
     let record_is =
-    list_is _ c.args.axis c.requires.along c.args.edit.now.kind c.args.id c.in_ok-later.kept c.args.self.now.workbook it.kept c.in_ok-list.list (c.in_ok-list.ensures {u = _}).made.done in
+    list_is _ c.args.axis c.requires.along c.args.edit.now.kind c.args.id c.in_ok-later.kept c.args.self.now.workbook it.kept c.in_ok-list.list (c.in_ok-list.ensures {u = _}).output.done in
     on_ok c.put_later.result (subst AreSpellable record_is (c.in_ok-list.ensures {u = _}).spellable)

@@ -29,20 +29,20 @@ returns-then-is_silent-clause-sound g c =
     let silent : is_silent (MoveLines c.args.sheet c.args.axis c.args.first c.args.count c.args.delta) c.args.self.now.workbook ≡ true = sym (simp to_z-of_z at c.is_silent.ensures) ∙ c.if-is_silent.true in
     λ loud. absurd (true≢false (sym silent ∙ loud))
 
-pub returns-then-is_silent-clause-made : goal.returns-then-is_silent-clause-made
-returns-then-is_silent-clause-made g c =
+pub returns-then-is_silent-clause-output : goal.returns-then-is_silent-clause-output
+returns-then-is_silent-clause-output g c =
     let count_fits : SFits w32 c.args.count = c.ranges.count in
     let delta_fits : SFits w32 c.args.delta = c.ranges.delta in
     let silent : is_silent (MoveLines c.args.sheet c.args.axis c.args.first c.args.count c.args.delta) c.args.self.now.workbook ≡ true = sym (simp to_z-of_z at c.is_silent.ensures) ∙ c.if-is_silent.true in
     subst (λ b. Makes b g.R.Recalc.Fits (session_of c.args.self.now c.args.results.now) (session_of c.args.self.now c.args.results.now)) (sym silent) refl
 
-pub returns-in-Some-clause-made : goal.returns-in-Some-clause-made
-returns-in-Some-clause-made g c =
+pub returns-in-Some-clause-output : goal.returns-in-Some-clause-output
+returns-in-Some-clause-output g c =
     let count_fits : SFits w32 c.args.count = c.ranges.count in
     let delta_fits : SFits w32 c.args.delta = c.ranges.delta in
     let loud : is_silent (MoveLines c.args.sheet c.args.axis c.args.first c.args.count c.args.delta) c.args.self.now.workbook ≡ false = sym (simp to_z-of_z at c.is_silent.ensures) ∙ c.if-is_silent.false in
     subst (λ b. OnOk c.edit_lines.result (Makes b g.R.Recalc.Fits (session_of c.args.self.now c.args.results.now) (session_of c.edit_lines.new.self c.edit_lines.new.results))) (sym loud)
-    c.edit_lines.ensures.made
+    c.edit_lines.ensures.output
 
 pub returns-in_err-found-clause-document : goal.returns-in_err-found-clause-document
 returns-in_err-found-clause-document g c =

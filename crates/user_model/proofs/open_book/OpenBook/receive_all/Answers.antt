@@ -29,7 +29,7 @@ loop-index-preserved g c =
           let reached = c.loop-index.invariant.0 s stands in
           let to = received_turns i e (document_in c.loop-index.self) (document_in c.receive.new.self) (Ok c.in_ok-receive.field-0) (c.in_ok-receive.ensures {u = _}).document reached.now reached.stands in
           reached_next q s i (document_in c.loop-index.self) reached e here (document_in c.receive.new.self) within front to.done),
-      made_next g.R.Recalc.Fits (session_of c.args.self.now c.args.results.now) (session_of c.receive.new.self c.receive.new.results) q i e front (c.in_ok-receive.ensures {u = _}).made,
+      made_next g.R.Recalc.Fits (session_of c.args.self.now c.args.results.now) (session_of c.receive.new.self c.receive.new.results) q i e front (c.in_ok-receive.ensures {u = _}).output,
       c.receive.ensures.paused ∙ c.loop-index.invariant.2,
     )
 
@@ -46,8 +46,8 @@ returns-in_err-receive-clause-next g c =
     let to = received_turns i e (document_in c.loop-index.self) _ _ c.in_err-receive.ensures.document reached.now reached.stands in
     reached_refused q s i (document_in c.loop-index.self) reached e here _ c.in_err-receive.field-0.0 c.in_err-receive.ensures.document.refused.0 to.refused)
 
-pub returns-in_err-receive-clause-made : goal.returns-in_err-receive-clause-made
-returns-in_err-receive-clause-made g c =
+pub returns-in_err-receive-clause-output : goal.returns-in_err-receive-clause-output
+returns-in_err-receive-clause-output g c =
     let i = c.loop-index.index in
     let e = c.index-queue-index.result in
     let reached = c.loop-index.invariant.0 c.requires.reached.0 c.requires.reached.1 in
@@ -65,8 +65,8 @@ returns-clause-next g c = λ s stands.
     let over : length c.args.queue.now ≤ c.loop-index.index = search rules in
     reached_end c.args.queue.now s c.loop-index.index (document_in c.loop-index.self) (c.loop-index.invariant.0 s stands) (drop_all c.loop-index.index c.args.queue.now over)
 
-pub returns-clause-made : goal.returns-clause-made
-returns-clause-made g c =
+pub returns-clause-output : goal.returns-clause-output
+returns-clause-output g c =
     let over : length c.args.queue.now ≤ c.loop-index.index = search rules in
     made_all g.R.Recalc.Fits (session_of c.args.self.now c.args.results.now) (session_of c.loop-index.self c.loop-index.results) c.args.queue.now c.loop-index.index over c.loop-index.invariant.1
 

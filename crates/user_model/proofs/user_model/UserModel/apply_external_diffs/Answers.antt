@@ -43,8 +43,8 @@ returns-in_err-queue-clause-parsed g c =
     let p = err_from_is_err_and c.from_residual.result c.from_residual.ensures.1 in
     rw (p.1, p.2) (parse_no_queue c.args.bytes.now c.in_err-queue.field-0.0 c.in_err-queue.ensures.refused)
 
-pub returns-in_err-queue-clause-made : goal.returns-in_err-queue-clause-made
-returns-in_err-queue-clause-made g c =
+pub returns-in_err-queue-clause-output : goal.returns-in_err-queue-clause-output
+returns-in_err-queue-clause-output g c =
     let p = err_from_is_err_and c.from_residual.result c.from_residual.ensures.1 in
     rw (p.1, p.2) (λ entries fits spelled. unread_made c.in_err-queue.field-0.0 entries g.R.Recalc.Fits c.args.self.now (c.in_err-queue.ensures.again entries fits spelled))
 
@@ -77,16 +77,16 @@ returns-clause-parsed g c = λ is.
     let state = c.self.invariant in
     absurd (never_unread c.receive_all.result (document_in c.receive_all.new.self) _ state.0 (c.receive_all.ensures.next state.0 state.1) is)
 
-pub returns-clause-made : goal.returns-clause-made
-returns-clause-made g c = λ entries fits spelled.
+pub returns-clause-output : goal.returns-clause-output
+returns-clause-output g c = λ entries fits spelled.
     read_made c.receive_all.result c.in_ok-queue.queue entries g.R.Recalc.Fits c.args.self.now (session_of c.receive_all.new.self c.receive_all.new.results) ((c.in_ok-queue.ensures {u = _}).again entries fits spelled)
     (subst (λ q. LeavesMade c.receive_all.result q g.R.Recalc.Fits c.args.self.now (session_of c.receive_all.new.self c.receive_all.new.results)) c.as_slice.ensures.items
-    (subst (λ (seen : Session). LeavesMade c.receive_all.result c.as_slice.result.now g.R.Recalc.Fits seen (session_of c.receive_all.new.self c.receive_all.new.results)) c.self.view_is c.receive_all.ensures.made))
+    (subst (λ (seen : Session). LeavesMade c.receive_all.result c.as_slice.result.now g.R.Recalc.Fits seen (session_of c.receive_all.new.self c.receive_all.new.results)) c.self.view_is c.receive_all.ensures.output))
 
 pub returns-clause-made_or_same : goal.returns-clause-made_or_same
 returns-clause-made_or_same g c =
     subst (λ (seen : Session). IsMade g.R.Recalc.Fits (session_of c.receive_all.new.self c.receive_all.new.results) ⊎ (session_of c.receive_all.new.self c.receive_all.new.results ≡ seen)) c.self.view_is
-    (left_made c.receive_all.result c.as_slice.result.now g.R.Recalc.Fits _ _ c.receive_all.ensures.made)
+    (left_made c.receive_all.result c.as_slice.result.now g.R.Recalc.Fits _ _ c.receive_all.ensures.output)
 
 pub invariant_of-self : goal.invariant_of-self
 invariant_of-self g c =

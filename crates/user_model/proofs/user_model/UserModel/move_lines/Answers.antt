@@ -22,13 +22,13 @@ returns-clause-next g c =
     subst (λ (seen : Session). (s : State) → StandsFor seen.document s → Moves c.move_lines.result (document_in c.move_lines.new.self) (edit_of edit s)) c.self.view_is
     (edit_moves edit (document_in c.self.inside.book) _ c.move_lines.result (simp to_z-of_z at c.move_lines.ensures.document) (simp to_z-of_z at c.move_lines.ensures.sound))
 
-pub returns-clause-made : goal.returns-clause-made
-returns-clause-made g c =
+pub returns-clause-output : goal.returns-clause-output
+returns-clause-output g c =
     let first_fits : SFits w32 c.args.first = c.ranges.first in
     let count_fits : SFits w32 c.args.count = c.ranges.count in
     let delta_fits : SFits w32 c.args.delta = c.ranges.delta in
     subst (λ (seen : Session). OnOk c.move_lines.result (Makes (is_silent (MoveLines c.args.sheet c.args.axis c.args.first c.args.count c.args.delta) seen.document.book) g.R.Recalc.Fits seen
-    (session_of c.move_lines.new.self c.move_lines.new.results))) c.self.view_is (simp to_z-of_z at c.move_lines.ensures.made)
+    (session_of c.move_lines.new.self c.move_lines.new.results))) c.self.view_is (simp to_z-of_z at c.move_lines.ensures.output)
 
 pub returns-clause-err : goal.returns-clause-err
 returns-clause-err g c =

@@ -11,15 +11,15 @@ returns-then-stays_there-clause-next g c = λ state stands.
     let silent = subst (λ (seen : Session). is_silent (MoveSheet c.args.from c.args.to) seen.document.book ≡ true) c.self.view_is (sym c.stays_there.ensures ∙ c.if-stays_there.true) in
     silent_moves (MoveSheet c.args.from c.args.to) c.args.self.now.document state stands silent
 
-pub returns-then-stays_there-clause-made : goal.returns-then-stays_there-clause-made
-returns-then-stays_there-clause-made g c =
+pub returns-then-stays_there-clause-output : goal.returns-then-stays_there-clause-output
+returns-then-stays_there-clause-output g c =
     let silent = subst (λ (seen : Session). is_silent (MoveSheet c.args.from c.args.to) seen.document.book ≡ true) c.self.view_is (sym c.stays_there.ensures ∙ c.if-stays_there.true) in
     subst (λ b. Makes b g.R.Recalc.Fits c.args.self.now c.args.self.now) (sym silent) refl
 
 pub take_sheet-requires : goal.take_sheet-requires
 take_sheet-requires g c = subst (λ (seen : Session). is_silent (MoveSheet c.args.from c.args.to) seen.document.book ≡ false) c.self.view_is (sym c.stays_there.ensures ∙ c.if-stays_there.false)
 
-pub returns-clause-made : goal.returns-clause-made
-returns-clause-made g c =
+pub returns-clause-output : goal.returns-clause-output
+returns-clause-output g c =
     let loud = subst (λ (seen : Session). is_silent (MoveSheet c.args.from c.args.to) seen.document.book ≡ false) c.self.view_is (sym c.stays_there.ensures ∙ c.if-stays_there.false) in
-    subst (λ b. OnOk c.take_sheet.result (Makes b g.R.Recalc.Fits c.args.self.now c.take_sheet.new.self)) (sym loud) c.take_sheet.ensures.made
+    subst (λ b. OnOk c.take_sheet.result (Makes b g.R.Recalc.Fits c.args.self.now c.take_sheet.new.self)) (sym loud) c.take_sheet.ensures.output

@@ -15,10 +15,10 @@ returns-clause-next g c =
     subst (λ (seen : Session). (s : State) → StandsFor seen.document s → Turns c.make_again.result (document_in c.make_again.new.self) (redo_of s)) c.self.view_is
     (redo_turns (document_in c.self.inside.book) _ c.make_again.result c.make_again.ensures.document)
 
-pub returns-clause-made : goal.returns-clause-made
-returns-clause-made g c =
+pub returns-clause-output : goal.returns-clause-output
+returns-clause-output g c =
     subst (λ (seen : Session). OnOk c.make_again.result (Makes (is_none_left seen.document.redo) g.R.Recalc.Fits seen (session_of c.make_again.new.self c.make_again.new.results))) c.self.view_is
-    c.make_again.ensures.made
+    c.make_again.ensures.output
 
 pub returns-clause-err : goal.returns-clause-err
 returns-clause-err g c =

@@ -45,5 +45,5 @@ pub returns-clause-next : goal.returns-clause-next
 returns-clause-next g c = λ state stands.
     let row_fits : SFits w32 c.args.row = c.ranges.row in
     let column_fits : SFits w32 c.args.column = c.ranges.column in
-    subst (λ k. Moves c.put_link.result c.put_link.new.self.document (edit_of (SetLink c.args.sheet c.args.row c.args.column (Some k)) state)) (c.in_ok-link.ensures {u = _}).made
+    subst (λ k. Moves c.put_link.result c.put_link.new.self.document (edit_of (SetLink c.args.sheet c.args.row c.args.column (Some k)) state)) (c.in_ok-link.ensures {u = _}).output
     (simp to_z-of_z at (c.put_link.ensures.next state stands))

@@ -12,15 +12,15 @@ returns-then-is_own_name-clause-next g c = λ state stands.
     let silent = subst (λ (seen : Session). is_silent (SetSetting (value.Name c.args.name.now)) seen.document.book ≡ true) c.self.view_is (sym c.is_own_name.ensures ∙ c.if-is_own_name.true) in
     silent_moves (SetSetting (value.Name c.args.name.now)) c.args.self.now.document state stands silent
 
-pub returns-then-is_own_name-clause-made : goal.returns-then-is_own_name-clause-made
-returns-then-is_own_name-clause-made g c =
+pub returns-then-is_own_name-clause-output : goal.returns-then-is_own_name-clause-output
+returns-then-is_own_name-clause-output g c =
     let silent = subst (λ (seen : Session). is_silent (SetSetting (value.Name c.args.name.now)) seen.document.book ≡ true) c.self.view_is (sym c.is_own_name.ensures ∙ c.if-is_own_name.true) in
     subst (λ b. Makes b g.R.Recalc.Fits c.args.self.now c.args.self.now) (sym silent) refl
 
 pub put_name-requires : goal.put_name-requires
 put_name-requires g c = subst (λ (seen : Session). is_silent (SetSetting (value.Name c.args.name.now)) seen.document.book ≡ false) c.self.view_is (sym c.is_own_name.ensures ∙ c.if-is_own_name.false)
 
-pub returns-clause-made : goal.returns-clause-made
-returns-clause-made g c =
+pub returns-clause-output : goal.returns-clause-output
+returns-clause-output g c =
     let loud = subst (λ (seen : Session). is_silent (SetSetting (value.Name c.args.name.now)) seen.document.book ≡ false) c.self.view_is (sym c.is_own_name.ensures ∙ c.if-is_own_name.false) in
-    subst (λ b. OnOk c.put_name.result (Makes b g.R.Recalc.Fits c.args.self.now c.put_name.new.self)) (sym loud) c.put_name.ensures.made
+    subst (λ b. OnOk c.put_name.result (Makes b g.R.Recalc.Fits c.args.self.now c.put_name.new.self)) (sym loud) c.put_name.ensures.output

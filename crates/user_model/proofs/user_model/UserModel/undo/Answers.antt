@@ -15,10 +15,10 @@ returns-clause-next g c =
     subst (λ (seen : Session). (s : State) → StandsFor seen.document s → Turns c.take_back.result (document_in c.take_back.new.self) (undo_of s)) c.self.view_is
     (undo_turns (document_in c.self.inside.book) _ c.take_back.result c.take_back.ensures.document)
 
-pub returns-clause-made : goal.returns-clause-made
-returns-clause-made g c =
+pub returns-clause-output : goal.returns-clause-output
+returns-clause-output g c =
     subst (λ (seen : Session). OnOk c.take_back.result (Makes (is_none_left seen.document.undo) g.R.Recalc.Fits seen (session_of c.take_back.new.self c.take_back.new.results))) c.self.view_is
-    c.take_back.ensures.made
+    c.take_back.ensures.output
 
 pub returns-clause-err : goal.returns-clause-err
 returns-clause-err g c =

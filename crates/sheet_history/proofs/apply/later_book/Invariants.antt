@@ -1,7 +1,7 @@
 use Rattle.std.proofs.Common.{◌≡◌, drop}
 use Rattle.sheet_lines.specs.Sheets.{IsPlacedBook}
 use Rattle.sheet_history.specs.Diffs.{forward_from}
-use Rattle.sheet_history.proofs.apply.made.Given as goal
+use Rattle.sheet_history.proofs.apply.later_book.Given as goal
 
 -- what is left takes the present workbook, which is placed, where the whole list takes the first
 abbrev pub invariant-loop-index : goal.invariant-loop-index

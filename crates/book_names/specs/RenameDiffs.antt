@@ -7,6 +7,7 @@ use Rattle.std.specs.FinMap.{FinMap, entries, get}
 use Rattle.base_values.specs.declared.EditError.{EditError}
 use Rattle.base_values.specs.declared.EditError.TheVariants.{DiffRefused}
 use Rattle.base_values.specs.declared.Position.{Position}
+use Rattle.base_values.specs.Places.{is_place, position_cmp}
 use Rattle.base_maps.specs.declared.SheetPlace.{SheetPlace}
 use Rattle.base_maps.specs.SheetPlaces.{sheet_place_cmp}
 use Rattle.base_tables.specs.Folding.{same_folded}
@@ -22,7 +23,6 @@ use Rattle.sheet_grid.specs.Sheet.{Sheet}
 use Rattle.sheet_grid.specs.Book.{Book}
 use Rattle.sheet_rules.specs.Names.{first_place}
 use Rattle.sheet_rules.specs.SheetNames.{is_sheet_name}
-use Rattle.base_values.specs.Places.{is_place}
 use Rattle.sheet_lines.specs.Sheets.{sheet_of}
 use Rattle.book_names.specs.declared.kept_trees.KeptTrees.{KeptTrees}
 use Rattle.book_names.specs.Renaming.{book_renamed, book_back}
@@ -44,14 +44,24 @@ abbrev pub is_formula : Option Cell → Bool
 is_formula None = false
 is_formula (Some cell) = is_some (tree_of cell.content)
 
--- a kept tree fits its place, the sheet is there, and there is a formula at the place
-unfoldable pub tree_stands : Option Sheet → Position → Node → Bool
-tree_stands None place tree = false
-tree_stands (Some sheet) place tree = tree_fits_at place tree && is_formula (get sheet.cells place)
+-- whether a place is there, and at it a formula
+abbrev pub is_formula_at : FinMap position_cmp Cell → Option Position → Bool
+is_formula_at cells None = false
+is_formula_at cells (Some place) = is_formula (get cells place)
+
+-- the formula of a tree is sought where the tree stood
+abbrev pub own_place : Sheet → Position → Option Position
+own_place sheet place = Some place
+
+-- a kept tree fits its place, the sheet is there, and there is a formula where one is sought for the place
+unfoldable pub tree_stands : (Sheet → Position → Option Position) → Option Sheet → Position → Node → Bool
+tree_stands seek None place tree = false
+tree_stands seek (Some sheet) place tree = tree_fits_at place tree && is_formula_at sheet.cells (seek sheet place)
 
 -- so does each kept tree of a cell
-unfoldable pub formulas_stand : FinMap sheet_place_cmp Node → Book → Bool
-formulas_stand formulas book = list_all (λ (entry : SheetPlace × Node). tree_stands (sheet_of book entry.0.sheet) entry.0.place entry.1) (entries formulas)
+unfoldable pub formulas_stand : (Sheet → Position → Option Position) → FinMap sheet_place_cmp Node → Book → Bool
+formulas_stand seek formulas book =
+    list_all (λ (entry : SheetPlace × Node). tree_stands seek (sheet_of book entry.0.sheet) entry.0.place entry.1) (entries formulas)
 
 -- each kept tree of a defined name fits A1, and its place is one of so many names
 unfoldable pub names_stand : FinMap nat_cmp Node → ℕ → Bool
@@ -69,7 +79,7 @@ formattings_stand formattings book =
 
 -- whether what is kept may stand where it stood
 abbrev pub may_stand : KeptTrees → Book → Bool
-may_stand kept book = formulas_stand kept.formulas book && names_stand kept.names (length book.names) && formattings_stand kept.formattings book
+may_stand kept book = formulas_stand own_place kept.formulas book && names_stand kept.names (length book.names) && formattings_stand kept.formattings book
 
 -- whether the sheet of an id can be renamed
 abbrev pub goes_forward : ℕ → KeptTrees → Book → Bool

@@ -1,7 +1,6 @@
 -- Formulas of a workbook after a renaming, what the opposite renaming does not give back, and the formulas taken back with it; and a
 -- workbook whose sheet was renamed.
 use Rattle.std.specs.Prelude.{◌≡◌, ℕ, ◌==◌, true, List, map, Option, Some, None, IfSome, if◌then◌else◌}
-use Rattle.std.specs.Option.{option_map}
 use Rattle.std.specs.Ordering.{nat_cmp}
 use Rattle.std.specs.FinMap.{FinMap, get}
 use Rattle.base_values.specs.declared.Position.{Position}
@@ -16,7 +15,7 @@ use Rattle.formula_names.specs.declared.Reach.{Reach}
 use Rattle.formula_names.specs.declared.Reach.TheVariants.{Sheets}
 use Rattle.formula_names.specs.Renamed.{tree_renamed, tree_kept}
 use Rattle.cell_content.specs.declared.Content.{Content}
-use Rattle.cell_content.specs.Lens.{tree_of}
+use Rattle.cell_content.specs.Lens.{content_changed, tree_of}
 use Rattle.defined_names.specs.declared.DefinedName.{DefinedName}
 use Rattle.format_rules.specs.declared.ConditionalFormatting.{ConditionalFormatting}
 use Rattle.format_rules.specs.contracts.formatting.ConditionalFormattingPartialEq.TheImpl as equality
@@ -26,7 +25,7 @@ use Rattle.format_rules.specs.RuleTrees.{trees_changed}
 use Rattle.base_maps.specs.declared.SheetIndex.{SheetIndex}
 use Rattle.base_maps.specs.SheetIndexes.{sheet_index_cmp}
 use Rattle.base_maps.specs.TaggedIndexes.{all_under as indexes_under, index_on}
-use Rattle.line_map.specs.Contents.{with_new_tree, cell_restored}
+use Rattle.line_map.specs.Contents.{cell_restored}
 use Rattle.sheet_grid.specs.declared.Cell.{Cell}
 use Rattle.sheet_grid.specs.Sheet.{Sheet}
 use Rattle.sheet_grid.specs.Book.{Book}
@@ -38,7 +37,7 @@ use Rattle.book_names.specs.declared.kept_trees.KeptTrees.{KeptTrees}
 
 -- a content whose tree, if it has one, is renamed
 abbrev pub content_renamed : Reach → List ℕ → List ℕ → Content → Content
-content_renamed reach old new content = with_new_tree content (option_map (tree_renamed reach old new) (tree_of content))
+content_renamed reach old new content = content_changed (tree_renamed reach old new) content
 
 -- a cell: its content is, and its style stays
 abbrev pub cell_renamed : Reach → List ℕ → List ℕ → Cell → Cell
@@ -46,7 +45,7 @@ cell_renamed reach old new cell = record cell { content = content_renamed reach 
 
 -- each cell of a sheet at its place
 abbrev pub cells_renamed : Reach → List ℕ → List ℕ → FinMap position_cmp Cell → FinMap position_cmp Cell
-cells_renamed reach old new cells = carried_map Some (λ _ _ cell. cell_renamed reach old new cell) cells
+cells_renamed reach old new cells = carried_map Some Some (λ _ _ cell. cell_renamed reach old new cell) cells
 
 -- a conditional rule: its trees are, and its parts and its priority stay
 abbrev pub formatting_renamed : Reach → List ℕ → List ℕ → ConditionalFormatting → ConditionalFormatting
@@ -80,7 +79,7 @@ cell_kept there back old new cell = if_there (tree_of cell.content) (tree_kept t
 
 -- of the cells of a sheet, under their places
 abbrev pub cells_kept : Reach → Reach → List ℕ → List ℕ → FinMap position_cmp Cell → FinMap position_cmp Node
-cells_kept there back old new cells = gathered Some (λ _ _ cell. cell_kept there back old new cell) cells
+cells_kept there back old new cells = gathered Some Some (λ _ _ cell. cell_kept there back old new cell) cells
 
 -- of each sheet, under its id, where the renamings reach what they do in the sheet of an id
 abbrev pub formulas_kept : (ℕ → Reach) → (ℕ → Reach) → List ℕ → List ℕ → List Sheet → FinMap sheet_place_cmp Node
@@ -143,7 +142,7 @@ cell_back reach old new kept cell = settled (cell_renamed reach new old) cell_re
 
 -- each cell of a sheet at its place
 abbrev pub cells_back : Reach → List ℕ → List ℕ → (Position → Option Node) → FinMap position_cmp Cell → FinMap position_cmp Cell
-cells_back reach old new kept cells = carried_map Some (λ _ place cell. cell_back reach old new (kept place) cell) cells
+cells_back reach old new kept cells = carried_map Some Some (λ _ place cell. cell_back reach old new (kept place) cell) cells
 
 -- what is kept of the sheet of an id, by place
 abbrev pub kept_under : KeptTrees → ℕ → Position → Option Node

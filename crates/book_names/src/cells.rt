@@ -184,7 +184,7 @@ pub(crate) fn changed_cells<C: CellChange>(
     change: &C,
     cells: &PlaceMap<Shared<Cell>>,
 ) -> Result<PlaceMap<Shared<Cell>>, EditError>
-    ensures cells { IfOk result (λ output. output ≡ carried_map Some (λ _ place cell. C.change change.now place cell) cells.now) }
+    ensures cells { IfOk result (λ output. output ≡ carried_map Some Some (λ _ place cell. C.change change.now place cell) cells.now) }
     ensures only { IsOkUnless result NoMemory }
 {
     // For the proof: what lies inside.

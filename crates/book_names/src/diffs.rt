@@ -4,14 +4,14 @@ ghost use Rattle.std.specs.Prelude.{◌≡◌, ◌<◌, ◌^◌, IsTrue, OnOk, n
 ghost use Rattle.std.specs.Option.{option_copied};
 ghost use Rattle.base_values.specs.Answers.{Edits};
 ghost use Rattle.sheet_lines.specs.Sheets.{IsPlacedBook};
-ghost use Rattle.book_names.specs.RenameDiffs.{stand_on_places, stand_on_parts, lie_in_sheets, tree_stands, formulas_stand, names_stand};
+ghost use Rattle.book_names.specs.RenameDiffs.{stand_on_places, stand_on_parts, lie_in_sheets, names_stand};
 ghost use Rattle.book_names.specs.RenameDiffs.{formatting_stands, formattings_stand, may_stand, goes_forward, goes_back};
 ghost use Rattle.book_names.specs.RenameDiffs.{rename_forward, rename_back};
 ghost use Rattle.book_names.specs.Renaming.{AreCanonicalTrees, ArePlacedTrees};
 
 use crate::kept_trees::KeptTrees;
 use crate::sheets::{book_back, book_renamed};
-use crate::standing::is_formula;
+use crate::standing::{OwnPlace, formulas_stand};
 use base_maps::{IndexMap, SheetIndexMap, SheetPlaceMap};
 use base_shared::Shared;
 use base_values::{EditError, Position, is_place};
@@ -46,29 +46,6 @@ pub fn lie_in_sheets(kept: &KeptTrees) -> bool
     ensures { result ≡ lie_in_sheets kept.now }
 {
     stand_on_places(&kept.formulas) && stand_on_parts(&kept.formattings)
-}
-
-/// Whether a kept tree fits its place in the sheet, and a formula is there for it.
-#[tactic(auto, unfolding(crate::specs::RenameDiffs::tree_stands))]
-fn tree_stands(sheet: Option<&Worksheet>, place: Position, tree: &Node) -> bool
-    ensures { result ≡ tree_stands (option_copied sheet.entry) place tree.now }
-{
-    match sheet {
-        Some(sheet) => tree_fits_at(place, tree) && is_formula(sheet.cell_map().get(place)),
-        None => false,
-    }
-}
-
-/// Whether each kept tree of a cell does.
-#[tactic(auto, unfolding(crate::specs::RenameDiffs::formulas_stand))]
-fn formulas_stand(formulas: &SheetPlaceMap<Shared<Node>>, workbook: &Workbook) -> bool
-    ensures { result ≡ formulas_stand formulas.now workbook.now }
-{
-    formulas.iter().all(|(key, tree)| tree_stands(
-        sheet_of(workbook, key.sheet),
-        key.place,
-        tree.get(),
-    ))
 }
 
 /// Whether each kept tree of a defined name fits A1, and its place is one of so many names.
@@ -132,7 +109,7 @@ fn goes_forward(workbook: &Workbook, id: u32, kept: &KeptTrees) -> bool
 fn all_stand(workbook: &Workbook, kept: &KeptTrees) -> bool
     ensures { result ≡ may_stand kept.now workbook.now }
 {
-    formulas_stand(&kept.formulas, workbook)
+    formulas_stand(&OwnPlace, &kept.formulas, workbook)
         && names_stand(&kept.names, workbook.defined_names().len())
         && formattings_stand(&kept.formattings, workbook)
 }

@@ -33,4 +33,4 @@ pub use names::list_back;
 pub use naming::may_be_named;
 pub use reaching::SheetReach;
 pub use sheets::{shared_name, with_formulas_back, with_formulas_renamed, with_lists};
-pub use standing::is_formula;
+pub use standing::{FormulaPlace, formulas_stand};

@@ -1,5 +1,6 @@
 -- A content is a shape and maybe a tree: how the tree is seen, and how another one is put in its place.
 use Rattle.std.specs.Prelude.{Option, Some, None}
+use Rattle.std.specs.Option.{option_map_or}
 use Rattle.formula_tree.specs.declared.Node.{Node}
 use Rattle.cell_content.specs.declared.content.Content.{Content}
 use Rattle.cell_content.specs.declared.content.Content.TheVariants.{Empty, Number, Boolean, Error, Text, Formula, Dynamic, Array}
@@ -25,3 +26,7 @@ with_tree (Text text) tree = Text text
 with_tree (Formula own) tree = Formula tree
 with_tree (Dynamic own) tree = Dynamic tree
 with_tree (Array own width height) tree = Array tree width height
+
+-- the content whose tree, if it has one, is changed so
+abbrev pub content_changed : (Node → Node) → Content → Content
+content_changed change content = option_map_or (λ tree. with_tree content (change tree)) (tree_of content) content

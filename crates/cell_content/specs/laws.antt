@@ -1,3 +1,4 @@
 pub mod ContentEquals
 pub mod FittingLaws
 pub mod LensLaws
+pub mod ChangedLaws

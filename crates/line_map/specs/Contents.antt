@@ -1,21 +1,16 @@
 -- What cells hold, carried along with them: a formula's tree follows, all else stays.
-use Rattle.std.specs.Prelude.{Option, Some, None, IfSome}
+use Rattle.std.specs.Prelude.{Option, IfSome}
 use Rattle.formula_tree.specs.declared.Node.{Node}
 use Rattle.cell_content.specs.declared.Content.{Content}
-use Rattle.cell_content.specs.Lens.{tree_of, with_tree}
+use Rattle.cell_content.specs.Lens.{content_changed, tree_of, with_tree}
 use Rattle.sheet_grid.specs.declared.Cell.{Cell}
 use Rattle.base_maps.specs.Carried.{if_there}
 use Rattle.line_routes.specs.Trees.{tree_carried, tree_part, TreeLies}
 use Rattle.line_routes.specs.Way.{Way}
 
--- a content with this tree, if there is one
-abbrev pub with_new_tree : Content → Option Node → Content
-with_new_tree content None = content
-with_new_tree content (Some tree) = with_tree content tree
-
 -- a content whose tree, if it has one, is carried along
 abbrev pub content_carried : Way → Content → Content
-content_carried w content = with_new_tree content (if_there (tree_of content) (λ tree. Some (tree_carried w tree)))
+content_carried w content = content_changed (tree_carried w) content
 
 -- what is kept of it
 abbrev pub content_part : Way → Content → Option Node

@@ -1,63 +1,85 @@
--- Maps by place whose entries are carried along.
+-- Maps whose entries are carried along with their keys.
 use Rattle.std.specs.Prelude.{◌≡◌, Option, Some, None, is_none, if◌then◌else◌}
-use Rattle.std.specs.FinMap.{FinMap, get}
+use Rattle.std.specs.FinMap.{FinMap, empty, get}
+use Rattle.std.specs.declared.cmp.Ordering.{Ordering}
 use Rattle.base_values.specs.declared.Position.{Position}
 use Rattle.base_values.specs.Places.{IsPlace, position_cmp}
 use Rattle.base_maps.specs.Carried.{carried_map, entry_made, if_there, parts_map, settled}
+use Rattle.line_map.specs.Keys.{KeysAre}
 use Rattle.line_routes.specs.Way.{Way, at, back, place_goes}
 
-module _ {F : Type 0} where
-  -- one entry where its place goes
-  abbrev pub carried_entry : (Way → F → F) → Way → Position × F → Option (Position × F)
-  carried_entry carry w entry = entry_made (place_goes w) (λ p q x. Some (carry (at w p q) x)) entry
+-- every part that is kept under a key that goes somewhere fits there
+abbrev pub PartsFit : {Q P : Type 0} → (Way → Q → Option Q) → (Way → Q → Q → Way) → (Way → P → Type 0) → Way → (Q → Option P) → Type 0
+PartsFit goes way_at Fits w parts = (p q : _) (part : _) → goes w p ≡ Some q → parts p ≡ Some part → Fits (way_at w p q) part
 
-  -- the part of one entry that goes somewhere, under its place before
-  abbrev pub kept_entry : {P : Type 0} → (Way → F → Option P) → Way → Position × F → Option (Position × P)
-  kept_entry part w entry = entry_made Some (λ p _ x. if_there (place_goes w p) (λ q. part (at w p q) x)) entry
+-- where keys go, and the way of what goes from a key to a key
+module _ {Q F : Type 0} (goes : Way → Q → Option Q) (way_at : Way → Q → Q → Way) where
+  -- one entry where its key goes
+  abbrev pub carried_entry : (Way → F → F) → Way → Q × F → Option (Q × F)
+  carried_entry carry w entry = entry_made (goes w) (λ p q x. Some (carry (way_at w p q) x)) entry
 
-  -- one entry where its place came from: restored from its part, or carried back
-  abbrev pub restored_entry : {P : Type 0} → (Way → F → F) → (Way → F → P → F) → Way → (Position → Option P) → Position × F → Option (Position × F)
+  -- the part of one entry that goes somewhere, under its key before
+  abbrev pub kept_entry : {P : Type 0} → (Way → F → Option P) → Way → Q × F → Option (Q × P)
+  kept_entry part w entry = entry_made Some (λ p _ x. if_there (goes w p) (λ q. part (way_at w p q) x)) entry
+
+  -- one entry where its key came from: restored from its part, or carried back
+  abbrev pub restored_entry : {P : Type 0} → (Way → F → F) → (Way → F → P → F) → Way → (Q → Option P) → Q × F → Option (Q × F)
   restored_entry carry restore w parts entry =
-      entry_made (place_goes (back w)) (λ q p x. Some (settled (carry (back (at w p q))) (restore (at w p q)) (parts p) x)) entry
+      entry_made (goes (back w)) (λ q p x. Some (settled (carry (back (way_at w p q))) (restore (way_at w p q)) (parts p) x)) entry
 
-  -- each entry where its place goes
+  module _ {R : Q → Q → Ordering} where
+    -- each entry where its key goes
+    abbrev pub entries_carried : (Way → F → F) → Way → FinMap R F → FinMap R F
+    entries_carried carry w m = carried_map (goes w) (goes (back w)) (λ p q x. carry (way_at w p q) x) m
+
+    -- the parts of the entries that go somewhere, under their keys before
+    abbrev pub entries_parts : {P : Type 0} → (Way → F → Option P) → Way → FinMap R F → FinMap R P
+    entries_parts part w m = parts_map (goes w) (λ p q x. part (way_at w p q) x) m
+
+    -- each entry where its key came from: restored from its part, or carried back
+    abbrev pub entries_restored : {P : Type 0} → (Way → F → F) → (Way → F → P → F) → Way → (Q → Option P) → FinMap R F → FinMap R F
+    entries_restored carry restore w parts m = carried_map (goes (back w)) (goes w)
+        (λ q p x. settled (carry (back (way_at w p q))) (restore (way_at w p q)) (parts p) x) m
+
+    -- what a carried map has at a key: the entry of the key that it came from, carried along
+    abbrev pub entry_carried : (Way → F → F) → Way → FinMap R F → Q → Option F
+    entry_carried carry w m q = if_there (goes (back w) q) (λ p. if_there (get m p) (λ x. Some (carry (way_at w p q) x)))
+
+    -- what is kept of an entry whose key goes somewhere
+    abbrev pub entry_part : {P : Type 0} → (Way → F → Option P) → Way → FinMap R F → Q → Option P
+    entry_part part w m p = if_there (get m p) (λ x. if_there (goes w p) (λ q. part (way_at w p q) x))
+
+    -- its followers lie inside, under keys that fit
+    pub record AllLie (fits : Q → Type 0) (Lies : Way → F → Type 0) (w : Way) (m : FinMap R F) : Type 0 where
+      pub places : KeysAre fits m
+      pub items : (p q : Q) (x : F) → get m p ≡ Some x → goes w p ≡ Some q → Lies (way_at w p q) x
+
+  -- what is kept of a map: what is laid over it stands at keys that fit, and each part fits
+  pub record KeptFits {P : Type 0} {R : Q → Q → Ordering} (fits : Q → Type 0) (Fits : Way → P → Type 0) (w : Way) (lost : FinMap R F) (parts : Q →
+      Option P) : Type 0 where
+    pub lost_inside : KeysAre fits lost
+    pub parts_fit : PartsFit goes way_at Fits w parts
+
+module _ {F : Type 0} where
+  -- what is lost of a map: each entry whose key goes nowhere
+  abbrev pub entry_lost : {Q : Type 0} {R : Q → Q → Ordering} → (Q → Option Q) → FinMap R F → Q → Option F
+  entry_lost to m p = if is_none (to p) then get m p else None
+
+  -- the entries of a map, if there is one
+  abbrev pub entries_of : {Q M : Type 0} {R : Q → Q → Ordering} → (M → FinMap R F) → Option M → FinMap R F
+  entries_of seen None = empty
+  entries_of seen (Some m) = seen m
+
+  -- the same for maps by place
   abbrev pub places_carried : (Way → F → F) → Way → FinMap position_cmp F → FinMap position_cmp F
-  places_carried carry w m = carried_map (place_goes w) (λ p q x. carry (at w p q) x) m
+  places_carried carry w m = entries_carried place_goes at carry w m
 
-  -- the parts of the entries that go somewhere, under their places before
   abbrev pub places_parts : {P : Type 0} → (Way → F → Option P) → Way → FinMap position_cmp F → FinMap position_cmp P
-  places_parts part w m = parts_map (place_goes w) (λ p q x. part (at w p q) x) m
+  places_parts part w m = entries_parts place_goes at part w m
 
-  -- each entry where its place came from: restored from its part, or carried back
   abbrev pub places_restored : {P : Type 0} → (Way → F → F) → (Way → F → P → F) → Way → (Position → Option P) → FinMap position_cmp F → FinMap position_cmp F
-  places_restored carry restore w parts m = carried_map (place_goes (back w)) (λ q p x. settled (carry (back (at w p q))) (restore (at w p q)) (parts p) x) m
-
-  -- what a carried map has at a place: the entry of the place that it came from, carried along
-  abbrev pub entry_carried : (Way → F → F) → Way → FinMap position_cmp F → Position → Option F
-  entry_carried carry w m q = if_there (place_goes (back w) q) (λ p. if_there (get m p) (λ x. Some (carry (at w p q) x)))
-
-  -- what is lost of a map: each entry whose place goes nowhere
-  abbrev pub entry_lost : Way → FinMap position_cmp F → Position → Option F
-  entry_lost w m p = if is_none (place_goes w p) then get m p else None
-
-  -- what is kept of an entry whose place goes somewhere
-  abbrev pub entry_part : {P : Type 0} → (Way → F → Option P) → Way → FinMap position_cmp F → Position → Option P
-  entry_part part w m p = if_there (get m p) (λ x. if_there (place_goes w p) (λ q. part (at w p q) x))
-
-  -- its followers lie inside, under places of the sheet
-  pub record AllLie (Lies : Way → F → Type 0) (w : Way) (m : FinMap position_cmp F) : Type 0 where
-    pub places : (p : Position) (x : F) → get m p ≡ Some x → IsPlace p
-    pub items : (p q : Position) (x : F) → get m p ≡ Some x → place_goes w p ≡ Some q → Lies (at w p q) x
+  places_restored carry restore w parts m = entries_restored place_goes at carry restore w parts m
 
   -- every key is a place of the sheet
   abbrev pub KeysInside : FinMap position_cmp F → Type 0
-  KeysInside m = (p : Position) (x : F) → get m p ≡ Some x → IsPlace p
-
--- every part that is kept under a place that goes somewhere fits there
-abbrev pub PartsFit : {P : Type 0} → (Way → P → Type 0) → Way → (Position → Option P) → Type 0
-PartsFit Fits w parts = (p q : Position) (part : _) → place_goes w p ≡ Some q → parts p ≡ Some part → Fits (at w p q) part
-
--- what is kept of a map: what is laid over it lies inside, and each part fits
-pub record KeptFits {F P : Type 0} (Fits : Way → P → Type 0) (w : Way) (lost : FinMap position_cmp F) (parts : FinMap position_cmp P) : Type 0 where
-  pub lost_inside : KeysInside lost
-  pub parts_fit : PartsFit Fits w (get parts)
+  KeysInside m = KeysAre IsPlace m

@@ -13,7 +13,7 @@ use cell_content::{Content, tree_of, with_tree};
 use formula_tree::Node;
 use line_edits::LineMap;
 use line_routes::{Route, carried_node, stays};
-use sheet_grid::{Cell, Link};
+use sheet_grid::{Cell, LineAttr, Link};
 use std::alloc::Global;
 
 /// Of a content the tree follows; one without a tree stays.
@@ -221,27 +221,33 @@ impl Exact for Nothing {
     ghost equals = { nothing_equals };
 }
 
-/// A link stays as it is.
-impl<A: Axis> Follower<A> for Link {
+/// What stays as it is.
+pub trait Stays: Exact + Drop {}
+
+impl Stays for Link {}
+
+impl Stays for LineAttr {}
+
+impl<A: Axis, F: Stays> Follower<A> for F {
     ghost use Rattle.std.specs.Prelude.{⊤, None, refl};
 
     type Part = Nothing;
 
     ghost Lies = { λ _ _. ⊤ };
 
-    ghost carry_of = { λ _ link. link };
+    ghost carry_of = { λ _ value. value };
 
     ghost part_of = { λ _ _. None };
 
     ghost Fits = { λ _ _. ⊤ };
 
-    ghost restore_of = { λ _ link _. link };
+    ghost restore_of = { λ _ value _. value };
 
     fn carry<M: LineMap<A>>(
         &self,
         _alloc: Global,
         _route: &Route<'_, A, M>,
-    ) -> Result<Link, EditError> {
+    ) -> Result<F, EditError> {
         copy_of(self)
     }
 
@@ -258,7 +264,7 @@ impl<A: Axis> Follower<A> for Link {
         _alloc: Global,
         _route: &Route<'_, A, M>,
         _part: &Nothing,
-    ) -> Result<Link, EditError> {
+    ) -> Result<F, EditError> {
         copy_of(self)
     }
 

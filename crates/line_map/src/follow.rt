@@ -3,7 +3,7 @@ ghost use Rattle.base_values.specs.declared.EditError.TheVariants.{NoMemory};
 ghost use Rattle.line_edits.specs.Edit.{IsValid};
 ghost use Rattle.line_edits.specs.declared.EditKind.{EditKind};
 
-use crate::follower::Follower;
+use crate::follower::{Follower, regained};
 use base_axis::Axis;
 use base_values::{EditError, Exact};
 use line_edits::LineEdit;
@@ -63,8 +63,8 @@ pub trait Follow<A: Axis>: Exact + Drop {
 }
 
 impl<A: Axis, F: Follower<A> + Exact> Follow<A> for F {
-    ghost use Rattle.std.specs.Prelude.{IfSome};
-    ghost use Rattle.line_map.specs.Alone.{regained, Restores};
+    ghost use Rattle.base_maps.specs.Carried.{settled};
+    ghost use Rattle.line_map.specs.Alone.{Restores};
     ghost use Rattle.line_routes.specs.EditWay.{edit_way};
     ghost use Rattle.line_routes.specs.Way.{back};
     ghost use Rattle.line_map.specs.laws.AloneLaws.{kept_restores, kept_fits};
@@ -80,7 +80,7 @@ impl<A: Axis, F: Follower<A> + Exact> Follow<A> for F {
 
     ghost kept_of = { λ e. F.part_of (edit_way A.along e) };
 
-    ghost regain_of = { λ e. regained F.carry_of F.restore_of (edit_way A.along e) };
+    ghost regain_of = { λ e v kept. settled (F.carry_of (back (edit_way A.along e))) (F.restore_of (edit_way A.along e)) kept v };
 
     fn follow(&self, alloc: Global, edit: &LineEdit<A>) -> Result<F, EditError> {
         let opposite = edit.opposite();
@@ -99,11 +99,7 @@ impl<A: Axis, F: Follower<A> + Exact> Follow<A> for F {
         kept: &Option<F::Part>,
     ) -> Result<F, EditError> {
         let opposite = edit.opposite();
-        let route = edit_route(edit, &opposite);
-        match kept {
-            Some(part) => self.restore(alloc, &route, part),
-            None => self.carry(alloc, &route.back()),
-        }
+        regained(alloc, &edit_route(edit, &opposite), self, kept.as_ref())
     }
 
     ghost fits = { λ e valid v lies. kept_fits F.Lies F.carry_of F.part_of (edit_way A.along e) (edit_is_way A.along A.lawful e valid) F.Fits F.stays F.part_fits v lies };

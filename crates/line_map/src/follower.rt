@@ -1,4 +1,6 @@
-ghost use Rattle.std.specs.Prelude.{◌≡◌, IfOk, IsOkUnless, None, Option, Some};
+ghost use Rattle.std.specs.Prelude.{◌≡◌, IfOk, IfSome, IsOkUnless, None, Option, Some};
+ghost use Rattle.std.specs.Option.{option_copied};
+ghost use Rattle.base_maps.specs.Carried.{settled};
 ghost use Rattle.base_values.specs.declared.EditError.TheVariants.{NoMemory};
 ghost use Rattle.line_routes.specs.Way.{Way, IsWay, back, way};
 
@@ -85,4 +87,23 @@ pub trait Follower<A: Axis>: Drop {
 
     /// The law of followers: what was kept restores the value.
     ghost restores: { (w : Way) → IsWay w → (v : Self) → Lies w v → (k : Self.Part) → part_of w v ≡ Some k → restore_of w (carry_of w v) k ≡ v };
+}
+
+/// The value before, from the one that was carried along the route: restored from its part, if there
+/// is one, else carried back. `NoMemory` is the only error.
+pub fn regained<A: Axis, M: LineMap<A>, F: Follower<A>>(
+    alloc: Global,
+    route: &Route<'_, A, M>,
+    value: &F,
+    part: Option<&F::Part>,
+) -> Result<F, EditError>
+    requires lies { F.Lies (back (way route.now)) value.now }
+    requires fits { IfSome (option_copied part) (F.Fits (way route.now)) }
+    ensures value { IfOk result (λ before. before ≡ settled (F.carry_of (back (way route.now))) (F.restore_of (way route.now)) (option_copied part.entry) value.now) }
+    ensures only { IsOkUnless result NoMemory }
+{
+    match part {
+        Some(part) => value.restore(alloc, route, part),
+        None => value.carry(alloc, &route.back()),
+    }
 }

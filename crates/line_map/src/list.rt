@@ -1,32 +1,9 @@
-ghost use Rattle.std.specs.Prelude.{◌≡◌, IfOk, IfSome, IsOkUnless};
-ghost use Rattle.base_values.specs.declared.EditError.TheVariants.{NoMemory};
-ghost use Rattle.base_maps.specs.Carried.{settled};
-ghost use Rattle.line_routes.specs.Way.{back, way};
-
-use crate::follower::Follower;
+use crate::follower::{Follower, regained};
 use base_axis::Axis;
 use base_values::{EditError, Items};
 use line_edits::LineMap;
 use line_routes::Route;
 use std::alloc::Global;
-
-/// What an item is restored from its part to, if it has one, else what is carried back.
-fn settled<A: Axis, M: LineMap<A>, F: Follower<A>>(
-    alloc: Global,
-    item: &F,
-    route: &Route<'_, A, M>,
-    part: &Option<F::Part>,
-) -> Result<F, EditError>
-    requires lies { F.Lies (back (way route.now)) item.now }
-    requires fits { IfSome part.now (F.Fits (way route.now)) }
-    ensures item { IfOk result (λ settled_item. settled_item ≡ settled (F.carry_of (back (way route.now))) (F.restore_of (way route.now)) part.now item.now) }
-    ensures only { IsOkUnless result NoMemory }
-{
-    match part {
-        Some(part) => item.restore(alloc, route, part),
-        None => item.carry(alloc, &route.back()),
-    }
-}
 
 /// Each item of a list is carried along.
 impl<A: Axis, F: Follower<A>> Follower<A> for Items<F> {
@@ -83,7 +60,7 @@ impl<A: Axis, F: Follower<A>> Follower<A> for Items<F> {
         let (items, parts) = (self.as_slice(), part.as_slice());
         let both = items.len().min(parts.len());
         for i in 0..both {
-            output.push(settled(alloc, &items[i], route, &parts[i])?)?;
+            output.push(regained(alloc, route, &items[i], parts[i].as_ref())?)?;
         }
         Ok(output)
     }

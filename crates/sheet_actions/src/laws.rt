@@ -1,7 +1,8 @@
 ghost use Rattle.std.specs.Prelude.{◌≡◌};
 ghost use Rattle.line_edits.specs.Edit.{IsValid};
 ghost use Rattle.sheet_lines.specs.Followed.{book_followed};
-ghost use Rattle.sheet_lines.specs.Back.{there_and_back};
+ghost use Rattle.sheet_lines.specs.Back.{book_back};
+ghost use Rattle.sheet_lines.specs.Kept.{kept_lines};
 ghost use Rattle.sheet_rules.specs.WellFormed.{IsWellFormed};
 ghost use Rattle.sheet_actions.specs.Whole.{IsAllowed};
 
@@ -18,7 +19,7 @@ pub fn edit_keeps_rules<A: Axis>(workbook: &Workbook, sheet_id: u32, edit: &Line
     requires rules { IsWellFormed workbook.now }
     requires allowed { IsAllowed A.along edit.now.kind sheet_id workbook.now }
     ensures rules { IsWellFormed (book_followed A.along edit.now.kind sheet_id workbook.now) }
-    ensures back { there_and_back A.along edit.now.kind sheet_id workbook.now ≡ workbook.now }
+    ensures back { book_back A.along edit.now.kind sheet_id (kept_lines A.along edit.now.kind sheet_id workbook.now) (book_followed A.along edit.now.kind sheet_id workbook.now) ≡ workbook.now }
 {
     // A law does no work: this cites the law below it.
     edit_and_back(workbook, sheet_id, edit);

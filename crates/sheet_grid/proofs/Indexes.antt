@@ -10,7 +10,7 @@ use Rattle.std.specs.FinMap.{FinMap, empty, entries, entries_sorted, from_entrie
 use Rattle.base_values.specs.KeyMap.{with_entry}
 use Rattle.base_values.specs.laws.KeyMap.{get-with_entry}
 use Rattle.base_maps.specs.Carried.{entry_made, gathered, if_there}
-use Rattle.base_maps.specs.laws.Gathering.{get-gathered}
+use Rattle.base_maps.specs.laws.Gathering.{gathered_by_turns, get-gathered}
 use Rattle.base_maps.specs.laws.Inverses.{own_inverse}
 use Rattle.base_maps.specs.laws.Keys.{one_key}
 
@@ -58,17 +58,17 @@ module _ {K X Y : Type 0} (R : K → K → Ordering) (make : K → X → Option 
 
   module _ (total : IsTotalOrder R) (exact : CmpEqualImpliesEq R) where
     -- each value that a map has makes one at its key
-    get-index : (m : FinMap R X) (q : K) → get (gathered Some (λ _ q x. make q x) m) q ≡ if_there (get m q) (make q)
+    get-index : (m : FinMap R X) (q : K) → get (gathered Some Some (λ _ q x. make q x) m) q ≡ if_there (get m q) (make q)
     get-index m q = get-gathered R total exact Some Some own_inverse (λ _ q x. make q x) m q
 
-    pub index-empty : gathered Some (λ _ q x. make q x) (empty {X = X} {R = R}) ≡ empty
+    pub index-empty : gathered Some Some (λ _ q x. make q x) (empty {X = X} {R = R}) ≡ empty
     index-empty = same_map total exact _ _ (λ q. get-index empty q ∙ ap (λ o. if_there o (make q)) (get-empty R q) ∙ sym (get-empty R q))
 
     -- an entry that is put puts what it makes
-    pub index-put : (m : FinMap R X) (k : K) (w : Option X) → gathered Some (λ _ q x. make q x) (with_entry m k w) ≡ with_entry (gathered Some (λ _ q x. make q x) m) k (if_there w (make k))
+    pub index-put : (m : FinMap R X) (k : K) (w : Option X) → gathered Some Some (λ _ q x. make q x) (with_entry m k w) ≡ with_entry (gathered Some Some (λ _ q x. make q x) m) k (if_there w (make k))
     index-put m k w = same_map total exact _ _ (λ q.
         get-index (with_entry m k w) q ∙ ap (λ o. if_there o (make q)) (get-with_entry total m k w q) ∙ at_key q (eq_by_cmp R q k) refl
-        ∙ ap (cond (eq_by_cmp R q k) (if_there w (make k))) (sym (get-index m q)) ∙ sym (get-with_entry total (gathered Some (λ _ q x. make q x) m) k (if_there w (make k)) q))
+        ∙ ap (cond (eq_by_cmp R q k) (if_there w (make k))) (sym (get-index m q)) ∙ sym (get-with_entry total (gathered Some Some (λ _ q x. make q x) m) k (if_there w (make k)) q))
       where
         at_key : (q : K) (b : Bool) → eq_by_cmp R q k ≡ b → if_there (cond b w (get m q)) (make q) ≡ cond b (if_there w (make k)) (if_there (get m q) (make q))
         at_key q true same = ap (λ j. if_there w (make j)) (one_key R total exact q k same)
@@ -80,6 +80,6 @@ module _ {K X Y : Type 0} (R : K → K → Ordering) (make : K → X → Option 
         ∙ entries-from_sorted R es h
 
     -- the values, in the order of their keys
-    pub index-values : (m : FinMap R X) → map (λ e. e.1) (entries (gathered Some (λ _ q x. make q x) m)) ≡ filter_map (λ e. make e.0 e.1) (entries m)
-    unfolding gathered
-    index-values m = ap (map (λ e. e.1)) (from_made (filter_map output (entries m)) (sorted_made (entries m) (entries_sorted m))) ∙ values_made (entries m)
+    pub index-values : (m : FinMap R X) → map (λ e. e.1) (entries (gathered Some Some (λ _ q x. make q x) m)) ≡ filter_map (λ e. make e.0 e.1) (entries m)
+    index-values m = ap (λ n. map (λ e. e.1) (entries n)) (sym (gathered_by_turns R total exact Some Some own_inverse (λ _ q x. make q x) m))
+        ∙ ap (map (λ e. e.1)) (from_made (filter_map output (entries m)) (sorted_made (entries m) (entries_sorted m))) ∙ values_made (entries m)

@@ -15,7 +15,7 @@ large_array_of place entry = if_there entry (λ cell. large_array_at place cell.
 
 -- the rectangles of such arrays among cells, each at the place where its array stands
 abbrev pub arrays_by_place : FinMap position_cmp Cell → FinMap position_cmp MergedCell
-arrays_by_place cells = gathered Some (λ _ place cell. large_array_at place cell.content) cells
+arrays_by_place cells = gathered Some Some (λ _ place cell. large_array_at place cell.content) cells
 
 -- cells whose numbers are canonical, and exactly the rectangles of the arrays of more than one cell among them
 pub record IsIndexed (cells : FinMap position_cmp Cell) (arrays : FinMap position_cmp MergedCell) : Type 0 where

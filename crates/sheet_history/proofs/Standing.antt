@@ -11,11 +11,7 @@ use Rattle.base_values.specs.Places.{is_line, position_cmp, is_place}
 use Rattle.base_values.specs.laws.Places.{position_total, exact_positions}
 use Rattle.base_axis.specs.declared.MergedCell.{MergedCell}
 use Rattle.base_axis.specs.Along.{Along}
-use Rattle.base_maps.specs.declared.SheetPlace.{SheetPlace}
-use Rattle.base_maps.specs.SheetPlaces.{sheet_place_cmp}
-use Rattle.base_maps.specs.laws.SheetPlaces.{sheet_place_total, exact_sheet_places}
-use Rattle.formula_tree.specs.declared.Node.{Node}
-use Rattle.cell_content.specs.Fitting.{fits_at, tree_fits_at}
+use Rattle.cell_content.specs.Fitting.{fits_at}
 use Rattle.format_rules.specs.declared.ConditionalFormatting.{ConditionalFormatting}
 use Rattle.format_rules.specs.Fitting.{StandsInside, has_parts, has_fitting_trees}
 use Rattle.format_rules.specs.laws.FittingLaws.{stands_inside}
@@ -30,10 +26,11 @@ use Rattle.sheet_rules.specs.laws.EntryLaws.{both}
 use Rattle.sheet_rules.specs.laws.InsideLaws.{places_from_test, lines_from_test}
 use Rattle.sheet_lines.specs.declared.KeptLines.{KeptLines}
 use Rattle.sheet_lines.specs.Back.{LieInside, ArePlacedLines}
-use Rattle.sheet_lines.specs.Sheets.{sheet_of}
 use Rattle.book_sheets.specs.SheetDiffs.{cells_fit}
-use Rattle.book_sheets.specs.laws.Placed.{placed_cell, placed_tree, merges_lie}
-use Rattle.sheet_history.specs.LineDiffs.{stand_on_lost, merges_inside, lie_inside, tree_stands, formulas_stand, each_stands}
+use Rattle.book_sheets.specs.laws.Placed.{placed_cell, merges_lie}
+use Rattle.book_names.specs.RenameDiffs.{formulas_stand}
+use Rattle.book_names.specs.laws.Placed.{formulas_placed}
+use Rattle.sheet_history.specs.LineDiffs.{stand_on_lost, merges_inside, lie_inside, each_stands}
 use Rattle.sheet_history.specs.laws.Entries.{entry_holds}
 
 first_tests : {X : Type 0} (f g : X → Bool) (xs : List X) → list_all (λ x. f x && g x) xs ≡ true → list_all f xs ≡ true
@@ -56,11 +53,6 @@ inside_of_lost a e kept all inside =
       merges = kept_merges_lie kept.merges (both _ _ (both _ _ inside).0).1;
     }
 
-tree_fits : (a : Along) (e : EditKind) (id : ℕ) (o : Option Sheet) (place : Position) (tree : Node) → tree_stands a e id o place tree ≡ true → tree_fits_at place tree ≡ true
-unfolding tree_stands
-tree_fits a e id None place tree stands = absurd (cc)
-tree_fits a e id (Some sheet) place tree stands = (both _ _ stands).0
-
 -- kept conditional rules that may stand lie inside the sheet
 pub rules_lie_where_stand : (formattings : FinMap nat_cmp ConditionalFormatting) → each_stands formattings ≡ true → KeptLie formattings
 rules_lie_where_stand formattings all place = go (get formattings place) refl
@@ -72,13 +64,12 @@ rules_lie_where_stand formattings all place = go (get formattings place) refl
         let parts = both (has_parts formatting) (has_fitting_trees formatting) stands in
         stands_inside formatting parts.0 parts.1
 
--- the trees of what may stand are placed
-pub placed_where_stands : (a : Along) (e : EditKind) (id : ℕ) (kept : KeptLines) (book : Book) → cells_fit kept.cells ≡ true → formulas_stand a e id kept.formulas book ≡ true
-    → KeptLie kept.formattings → ArePlacedLines kept
-unfolding cells_fit formulas_stand
-placed_where_stands a e id kept book fit stand lie = record {
+-- what may stand is placed, wherever the formulas of its trees are sought
+pub placed_where_stands : (seek : Sheet → Position → Option Position) (kept : KeptLines) (book : Book) → cells_fit kept.cells ≡ true
+    → formulas_stand seek kept.formulas book ≡ true → KeptLie kept.formattings → ArePlacedLines kept
+unfolding cells_fit
+placed_where_stands seek kept book fit stand lie = record {
   cells = λ place cell found. placed_cell place cell (entry_holds position_cmp position_total exact_positions (λ (entry : Position × Cell). fits_at entry.0 entry.1.content) kept.cells fit place cell found);
-  formulas = λ key tree found. placed_tree key.place tree (tree_fits a e id (sheet_of book key.sheet) key.place tree
-      (entry_holds sheet_place_cmp sheet_place_total exact_sheet_places (λ (entry : SheetPlace × Node). tree_stands a e id (sheet_of book entry.0.sheet) entry.0.place entry.1) kept.formulas stand key tree found));
+  formulas = formulas_placed seek kept.formulas book stand;
   formattings = lie;
 }

@@ -4,18 +4,14 @@ use Rattle.std.specs.Prelude.{not, ◌&&◌, ◌==◌, is_none, int_le, int_lt, 
 use Rattle.std.specs.List.{list_all}
 use Rattle.std.specs.Ordering.{nat_cmp}
 use Rattle.std.specs.declared.cmp.Ordering.{Ordering}
-use Rattle.std.specs.FinMap.{FinMap, entries, get}
+use Rattle.std.specs.FinMap.{FinMap, entries}
 use Rattle.base_values.specs.declared.EditError.{EditError}
 use Rattle.base_values.specs.declared.EditError.TheVariants.{DiffRefused}
 use Rattle.base_values.specs.declared.Position.{Position}
-use Rattle.base_values.specs.Places.{is_line, position_cmp, is_place}
+use Rattle.base_values.specs.Places.{is_line, is_place}
 use Rattle.base_axis.specs.declared.MergedCell.{MergedCell}
 use Rattle.base_axis.specs.Rectangles.{is_inside}
 use Rattle.base_axis.specs.Along.{Along, rows, columns}
-use Rattle.base_maps.specs.declared.SheetPlace.{SheetPlace}
-use Rattle.base_maps.specs.SheetPlaces.{sheet_place_cmp}
-use Rattle.formula_tree.specs.declared.Node.{Node}
-use Rattle.cell_content.specs.Fitting.{tree_fits_at}
 use Rattle.format_rules.specs.declared.ConditionalFormatting.{ConditionalFormatting}
 use Rattle.format_rules.specs.Fitting.{has_parts}
 use Rattle.line_edits.specs.declared.EditKind.{EditKind}
@@ -33,8 +29,7 @@ use Rattle.sheet_lines.specs.Back.{book_back}
 use Rattle.book_sheets.specs.SheetDiffs.{lies_inside, cells_fit}
 use Rattle.rule_edits.specs.RuleChanges as rule_changes
 use Rattle.rule_lines.specs.Rules.{are_there}
-pub use Rattle.book_names.specs.RenameDiffs.{is_formula}
-use Rattle.book_names.specs.RenameDiffs.{stand_on_places}
+use Rattle.book_names.specs.RenameDiffs.{formulas_stand, stand_on_places}
 use Rattle.sheet_history.specs.declared.diff.LineAxis.{LineAxis}
 use Rattle.sheet_history.specs.declared.diff.LineAxis.TheVariants.{Rows, Columns}
 
@@ -88,23 +83,9 @@ unfoldable pub lie_inside : KeptLines → Bool
 lie_inside kept =
     list_all (λ (entry : Position × Cell). lies_inside (array_at entry.0 entry.1.content)) (entries kept.cells) && merges_inside kept.merges && parts_inside kept.formattings
 
--- whether a place is there, and at it a formula
-abbrev pub is_formula_at : FinMap position_cmp Cell → Option Position → Bool
-is_formula_at cells None = false
-is_formula_at cells (Some place) = is_formula (get cells place)
-
 -- where a place of a sheet goes, which is the edited one or another one
-unfoldable pub goes_on : Along → EditKind → Bool → Position → Option Position
-goes_on a e is_edited place = if is_edited then place_image a (image_at a.last e) place else Some place
-
--- a kept tree fits its place, the sheet is there, and where its place goes there is a formula
-unfoldable pub tree_stands : Along → EditKind → ℕ → Option Sheet → Position → Node → Bool
-tree_stands a e id None place tree = false
-tree_stands a e id (Some sheet) place tree = tree_fits_at place tree && is_formula_at sheet.cells (goes_on a e (sheet.id == id) place)
-
--- so does each kept tree
-unfoldable pub formulas_stand : Along → EditKind → ℕ → FinMap sheet_place_cmp Node → Book → Bool
-formulas_stand a e id formulas book = list_all (λ (entry : SheetPlace × Node). tree_stands a e id (sheet_of book entry.0.sheet) entry.0.place entry.1) (entries formulas)
+unfoldable pub goes_on : Along → EditKind → ℕ → Sheet → Position → Option Position
+goes_on a e id sheet place = if sheet.id == id then place_image a (image_at a.last e) place else Some place
 
 -- each kept conditional rule may stand on a sheet
 abbrev pub each_stands : FinMap nat_cmp ConditionalFormatting → Bool
@@ -117,7 +98,7 @@ formattings_stand formattings (Some sheet) = are_there formattings (length sheet
 
 -- what is kept may stand where it stood
 abbrev pub may_stand : Along → ℕ → EditKind → KeptLines → Book → Bool
-may_stand a id e kept book = cells_fit kept.cells && formulas_stand a e id kept.formulas book && formattings_stand kept.formattings (sheet_of book id)
+may_stand a id e kept book = cells_fit kept.cells && formulas_stand (goes_on a e id) kept.formulas book && formattings_stand kept.formattings (sheet_of book id)
 
 -- whether an edit of the sheet of an id can be made
 abbrev pub goes_forward : Along → ℕ → EditKind → KeptLines → Book → Bool

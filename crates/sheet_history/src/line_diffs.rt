@@ -2,7 +2,6 @@
 
 ghost use Rattle.std.specs.Prelude.{◌≡◌, ◌&&◌, ◌+ℤ◌, IsTrue, OnOk, int_le, int_lt, is_none, is_some, not};
 ghost use Rattle.std.specs.List.{list_all};
-ghost use Rattle.std.specs.Option.{option_copied};
 ghost use Rattle.std.specs.FinMap.{entries};
 ghost use Rattle.base_values.specs.Answers.{Edits};
 ghost use Rattle.base_values.specs.declared.Position.{Position};
@@ -15,18 +14,16 @@ ghost use Rattle.sheet_lines.specs.Sheets.{IsPlacedBook, sheet_of};
 ghost use Rattle.book_sheets.specs.SheetDiffs.{cells_fit};
 ghost use Rattle.rule_lines.specs.Canonical.{KeptLie};
 ghost use Rattle.sheet_history.specs.LineDiffs.{is_pushed_past, stays_inside, is_there_inside, is_lost_place, is_lost_line, all_keys};
-ghost use Rattle.sheet_history.specs.LineDiffs.{stand_on_lost, lie_inside, merges_inside, parts_inside, is_formula, is_formula_at, goes_on, tree_stands, formulas_stand, each_stands, formattings_stand, may_stand};
+ghost use Rattle.sheet_history.specs.LineDiffs.{stand_on_lost, lie_inside, merges_inside, parts_inside, each_stands, formattings_stand, may_stand};
 ghost use Rattle.sheet_history.specs.LineDiffs.{goes_forward, goes_back, lines_forward, lines_back};
 
 use base_axis::{Axis, MergeList};
-use base_maps::{IndexMap, NumberMap, PositionMap, SheetPlaceMap};
+use base_maps::{IndexMap, NumberMap, PositionMap};
 use base_shared::Shared;
-use base_values::{EditError, PlaceMap, Position, is_line, is_place};
-use book_names::{is_formula, stand_on_places};
+use base_values::{EditError, Position, is_line, is_place};
+use book_names::{FormulaPlace, formulas_stand, stand_on_places};
 use book_sheets::{arrays_lie_inside, each_fits, merges_lie_inside};
-use cell_content::tree_fits_at;
 use format_rules::{ConditionalFormatting, has_fitting_trees, has_parts};
-use formula_tree::Node;
 use line_edits::place_image;
 use line_map::{EditKind, LineEdit};
 use rule_lines::are_there;
@@ -163,66 +160,26 @@ fn cells_fit(cells: &PositionMap<Shared<Cell>>) -> bool
     each_fits(cells.iter())
 }
 
-fn is_formula_at(cells: &PlaceMap<Shared<Cell>>, place: Option<Position>) -> bool
-    ensures { result ≡ is_formula_at cells.now place }
-{
-    match place {
-        Some(place) => is_formula(cells.get(place)),
-        None => false,
-    }
-}
-
-/// Where a place of a sheet goes, which is the edited one or another one.
-#[tactic(auto, unfolding(crate::specs::LineDiffs::goes_on))]
-fn goes_on<A: Axis>(edit: &LineEdit<A>, is_edited: bool, place: Position) -> Option<Position>
-    ensures { result ≡ goes_on A.along edit.now.kind is_edited place }
-{
-    if is_edited {
-        place_image(edit, place)
-    } else {
-        Some(place)
-    }
-}
-
-/// Whether a kept tree fits its place in the sheet, and a formula is there for it.
-#[tactic(auto, unfolding(crate::specs::LineDiffs::tree_stands))]
-fn tree_stands<A: Axis>(
-    edit: &LineEdit<A>,
+/// Where an edit of the sheet of an id takes the place of a tree.
+#[derive(Drop)]
+struct PlaceAfter<'e, A: Axis> {
+    edit: &'e LineEdit<A>,
     id: u32,
-    sheet: Option<&Worksheet>,
-    place: Position,
-    tree: &Node,
-) -> bool
-    ensures { result ≡ tree_stands A.along edit.now.kind id (option_copied sheet.entry) place tree.now }
-{
-    match sheet {
-        Some(sheet) => {
-            let to = goes_on(edit, sheet.get_sheet_id() == id, place);
-            tree_fits_at(place, tree) && is_formula_at(sheet.cell_map(), to)
+}
+
+impl<'e, A: Axis> FormulaPlace for PlaceAfter<'e, A> {
+    ghost use Rattle.sheet_history.specs.LineDiffs.{goes_on};
+
+    ghost sought = { λ self. goes_on A.along self.edit.now.kind self.id };
+
+    #[tactic(auto, unfolding(crate::specs::LineDiffs::goes_on))]
+    fn seek_in(&self, sheet: &Worksheet, place: Position) -> Option<Position> {
+        if sheet.get_sheet_id() == self.id {
+            place_image(self.edit, place)
+        } else {
+            Some(place)
         }
-        None => false,
     }
-}
-
-/// Whether each kept tree fits its place, with a formula there.
-#[tactic(auto, unfolding(crate::specs::LineDiffs::formulas_stand))]
-fn formulas_stand<A: Axis>(
-    edit: &LineEdit<A>,
-    id: u32,
-    formulas: &SheetPlaceMap<Shared<Node>>,
-    workbook: &Workbook,
-) -> bool
-    ensures { result ≡ formulas_stand A.along edit.now.kind id formulas.now workbook.now }
-{
-    formulas.iter().all(|(key, tree)| {
-        tree_stands(
-            edit,
-            id,
-            sheet_of(workbook, key.sheet),
-            key.place,
-            tree.get(),
-        )
-    })
 }
 
 fn goes_forward<A: Axis>(edit: &LineEdit<A>, id: u32, kept: &KeptLines, workbook: &Workbook) -> bool
@@ -296,7 +253,7 @@ fn may_stand<A: Axis>(edit: &LineEdit<A>, id: u32, kept: &KeptLines, workbook: &
     ensures placed { IsTrue result → ArePlacedLines kept.now }
 {
     cells_fit(&kept.cells)
-        && formulas_stand(edit, id, &kept.formulas, workbook)
+        && formulas_stand(&PlaceAfter { edit, id }, &kept.formulas, workbook)
         && formattings_stand(&kept.formattings, workbook, id)
 }
 

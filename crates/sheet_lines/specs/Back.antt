@@ -1,19 +1,19 @@
 -- A workbook taken back along a map on the lines of one of its sheets.
-use Rattle.std.specs.Prelude.{◌≡◌, ℕ, true, List, map, Option, Some, None, IfSome, if◌then◌else◌}
+use Rattle.std.specs.Prelude.{◌≡◌, ℕ, Bool, true, List, map, Option, Some, None, IfSome, if◌then◌else◌}
 use Rattle.std.specs.Ordering.{nat_cmp}
 use Rattle.std.specs.declared.cmp.Ordering.{Ordering}
-use Rattle.std.specs.FinMap.{FinMap, get}
+use Rattle.std.specs.FinMap.{FinMap, empty, get}
 use Rattle.base_axis.specs.Along.{Along, rows, columns}
 use Rattle.base_axis.specs.declared.MergedCell.{MergedCell}
-use Rattle.base_maps.specs.Carried.{overlaid, settled}
+use Rattle.base_maps.specs.Carried.{moved_map, overlaid, settled}
 use Rattle.base_maps.specs.Tagged.{place_on}
 use Rattle.format_rules.specs.declared.ConditionalFormatting.{ConditionalFormatting}
 use Rattle.line_edits.specs.declared.EditKind.{EditKind}
 use Rattle.line_map.specs.Attributes.{lines_restored, LinesLie}
 use Rattle.line_map.specs.Contents.{cell_carried, cell_restored}
-use Rattle.line_map.specs.Maps.{places_carried, places_restored, KeysInside}
+use Rattle.line_map.specs.Maps.{places_restored, KeysInside}
 use Rattle.line_routes.specs.Merges.{merges_carried, MergesLie}
-use Rattle.line_routes.specs.Way.{Way, back}
+use Rattle.line_routes.specs.Way.{Way, back, place_goes}
 use Rattle.rule_lines.specs.Canonical.{KeptLie}
 use Rattle.rule_lines.specs.Rules.{rules_restored}
 use Rattle.formula_tree.specs.declared.Node.{Node}
@@ -24,13 +24,12 @@ use Rattle.sheet_grid.specs.declared.Cell.{Cell}
 use Rattle.sheet_grid.specs.Sheet.{Sheet}
 use Rattle.sheet_grid.specs.Book.{Book}
 use Rattle.sheet_lines.specs.declared.kept.KeptLines.{KeptLines}
-use Rattle.sheet_lines.specs.Followed.{way_of_edit, book_followed}
-use Rattle.sheet_lines.specs.Kept.{kept_lines}
+use Rattle.sheet_lines.specs.Followed.{way_of_edit}
 use Rattle.sheet_lines.specs.Sheets.{IsPlacedCell}
 
--- what came back, on the edited sheet with the lost entries in place of its own
-abbrev pub with_lost : {K X : Type 0} {R : K → K → Ordering} → Way → FinMap R X → FinMap R X → FinMap R X
-with_lost w lost m = if w.is_edited then overlaid lost m else m
+-- what was lost where keys go along, and nothing where they stay
+abbrev pub lost_along : {K X : Type 0} {R : K → K → Ordering} → Bool → FinMap R X → FinMap R X
+lost_along along lost = if along then lost else empty
 
 -- the merges that were kept of the edited sheet, else those that go back
 abbrev pub merges_back : Way → Option (List MergedCell) → List MergedCell → List MergedCell
@@ -44,9 +43,9 @@ formattings_back w kept rules = if w.is_edited then rules_restored w kept rules 
 -- lost ones had, its merges and its conditional rules
 abbrev pub sheet_back : Way → KeptLines → Sheet → Sheet
 sheet_back w kept sheet = record sheet {
-  cells = with_lost w kept.cells (places_restored cell_carried (λ _ cell tree. cell_restored cell tree) w
+  cells = overlaid (lost_along w.is_edited kept.cells) (places_restored cell_carried (λ _ cell tree. cell_restored cell tree) w
       (λ place. get kept.formulas (place_on sheet.id place)) sheet.cells);
-  links = with_lost w kept.links (places_carried (λ _ link. link) (back w) sheet.links);
+  links = overlaid (lost_along w.is_edited kept.links) (moved_map (place_goes (back w)) (place_goes w) sheet.links);
   rows = lines_restored rows w sheet.rows kept.lines;
   columns = lines_restored columns w sheet.columns kept.lines;
   merges = merges_back w kept.merges sheet.merges;
@@ -58,10 +57,6 @@ abbrev pub book_back : Along → EditKind → ℕ → KeptLines → Book → Boo
 book_back a e id kept book = record book {
   worksheets = map (λ sheet. sheet_back (way_of_edit a e id book sheet) kept sheet) book.worksheets;
 }
-
--- a workbook after an edit of the lines of the sheet of an id was made and taken back with what was kept
-abbrev pub there_and_back : Along → EditKind → ℕ → Book → Book
-there_and_back a e id book = book_back a e id (kept_lines a e id book) (book_followed a e id book)
 
 -- the keys and the merges of what is kept lie inside the sheet
 pub record LieInside (a : Along) (kept : KeptLines) : Type 0 where

@@ -1,31 +1,34 @@
-ghost use Rattle.std.specs.Prelude.{◌≡◌, map, IfOk, IfSome, IsOkUnless, IsTrue, is_some};
+ghost use Rattle.std.specs.Prelude.{◌≡◌, map, true, IfOk, IfSome, IsOkUnless, IsTrue, is_some};
 ghost use Rattle.std.specs.List.{AllByRecursion};
 ghost use Rattle.base_values.specs.declared.EditError.TheVariants.{NoMemory};
+ghost use Rattle.base_maps.specs.Carried.{overlaid};
 ghost use Rattle.line_map.specs.Attributes.{LinesLie, lines_restored};
 ghost use Rattle.line_edits.specs.Edit.{IsValid};
-ghost use Rattle.line_map.specs.Maps.{AllLie, KeysInside, PartsFit, places_restored};
+ghost use Rattle.line_map.specs.Keys.{KeysAre, rekeyed};
+ghost use Rattle.line_map.specs.Maps.{AllLie, PartsFit, entries_restored};
 ghost use Rattle.line_routes.specs.Merges.{MergesLie};
 ghost use Rattle.line_routes.specs.Way.{back, way};
 ghost use Rattle.rule_lines.specs.Canonical.{AreCanonicalKept};
 ghost use Rattle.rule_lines.specs.Rules.{RulesLie};
-ghost use Rattle.sheet_lines.specs.Back.{LieInside, ArePlacedLines, with_lost, merges_back, formattings_back, sheet_back, book_back};
+ghost use Rattle.sheet_lines.specs.Back.{LieInside, ArePlacedLines, lost_along, merges_back, formattings_back, sheet_back, book_back};
 ghost use Rattle.sheet_lines.specs.Followed.{way_on};
 ghost use Rattle.sheet_lines.specs.CanonicalNumbers.{AreCanonicalLines};
 ghost use Rattle.sheet_lines.specs.Sheets.{sheet_of, IsPlacedSheet, IsPlacedBook};
 
 use crate::edited_sheet::EditedSheet;
 use crate::followed::edited_by;
-use crate::inside::{lines_inside, places_inside};
+use crate::inside::places_inside;
 use crate::kept::KeptLines;
 use crate::sheets::route_on;
 use base_axis::{Axis, AxisMap, MergeList};
-use base_maps::{PositionMap, SheetPlace, SheetPlaceMap};
+use base_maps::{SheetPlace, SheetPlaceMap};
 use base_shared::Shared;
-use base_values::{EditError, Exact, Items, PlaceMap, Position, copy_of};
+use base_values::{EditError, Exact, Items, KeyMap, Position, copy_of};
 use format_rules::RuleList;
 use formula_tree::Node;
 use line_map::{
-    Follower, LineEdit, LineMap, Nothing, Parts, Route, overlaid_places, restored_places,
+    Follower, LineEdit, LineMap, Nothing, Parts, Route, RouteKeys, goes_along, regained,
+    restored_map,
 };
 use rule_lines::restored_rules;
 use sheet_grid::{LineAttr, Workbook, Worksheet};
@@ -38,11 +41,9 @@ struct SheetTrees<'k> {
     id: u32,
 }
 
-impl<'k> Parts for SheetTrees<'k> {
+impl<'k> Parts<Position, Shared<Node>> for SheetTrees<'k> {
     ghost use Rattle.std.specs.FinMap.{get};
     ghost use Rattle.base_maps.specs.Tagged.{place_on};
-
-    type Part = Shared<Node>;
 
     ghost part_at = { λ s place. get s.formulas.now (place_on s.id place) };
 
@@ -56,38 +57,39 @@ impl<'k> Parts for SheetTrees<'k> {
 #[derive(Drop)]
 struct NoParts {}
 
-impl Parts for NoParts {
+impl<Q: Drop> Parts<Q, Nothing> for NoParts {
     ghost use Rattle.std.specs.Prelude.{None};
-
-    type Part = Nothing;
 
     ghost part_at = { λ _ _. None };
 
-    fn part(&self, _place: Position) -> Option<&Nothing> {
+    fn part(&self, _key: Q) -> Option<&Nothing> {
         None
     }
 }
 
-/// The entries of a map taken back, with their kept parts and, on the edited sheet, the lost ones.
-fn map_back<A: Axis, M: LineMap<A>, F: Follower<A> + Exact, P: Parts<Part = F::Part>>(
+/// A map taken back, with the kept parts and, where keys go along, the lost entries.
+fn map_back<
+    A: Axis,
+    M: LineMap<A>,
+    F: Follower<A> + Exact,
+    K: RouteKeys<A, F>,
+    L: Parts<K::Key, F::Part>,
+>(
     alloc: Global,
     route: &Route<'_, A, M>,
-    parts: &P,
-    lost: &PositionMap<F>,
-    map: &PlaceMap<F>,
-) -> Result<PlaceMap<F>, EditError>
-    requires lie { AllLie F.Lies (back (way route.now)) map.now }
-    requires fit { PartsFit F.Fits (way route.now) (P.part_at parts.now) }
-    requires inside { KeysInside lost.now }
-    ensures map { IfOk result (λ output. output ≡ with_lost (way route.now) lost.now (places_restored F.carry_of F.restore_of (way route.now) (P.part_at parts.now) map.now)) }
+    parts: &L,
+    along: bool,
+    lost: &KeyMap<K::Lost, F>,
+    map: &KeyMap<K, F>,
+) -> Result<KeyMap<K, F>, EditError>
+    requires lie { AllLie K.goes K.at K.fits F.Lies (back (way route.now)) (K.seen map.now) }
+    requires fit { PartsFit K.goes K.at F.Fits (way route.now) (L.part_at parts.now) }
+    requires inside { along ≡ true → KeysAre K.fits (K.Lost.seen lost.now) }
+    ensures map { IfOk result (λ output. K.seen output ≡ overlaid (rekeyed (lost_along along (K.Lost.seen lost.now))) (entries_restored K.goes K.at F.carry_of F.restore_of (way route.now) (L.part_at parts.now) (K.seen map.now))) }
     ensures only { IsOkUnless result NoMemory }
 {
-    let output = restored_places(alloc, route, parts, map)?;
-    if route.is_edited {
-        overlaid_places(lost, output)
-    } else {
-        Ok(output)
-    }
+    let lost = along.then_some(lost);
+    restored_map(alloc, route, lost, parts, map)
 }
 
 /// What the lines of an axis have, taken back on the edited axis of the edited sheet.
@@ -101,12 +103,11 @@ fn lines_back<A: Axis, B: Axis, M: LineMap<A>>(
     ensures lines { IfOk result (λ output. output ≡ lines_restored B.along (way route.now) lines.now kept.now.lines) }
     ensures only { IsOkUnless result NoMemory }
 {
-    if !route.is_edited || !A::of(B::of(true, false), B::of(false, true)) {
-        return copy_of(lines);
-    }
     // For the proof: what lies inside.
-    lines_inside(lines);
-    lines.restore(alloc, route, &kept.lines)
+    places_inside(lines);
+    route.is_way();
+    let along = goes_along::<A, B, M>(route);
+    map_back(alloc, route, &NoParts {}, along, &kept.lines, lines)
 }
 
 /// The merges of a sheet taken back: on the edited sheet the kept ones, if there are.
@@ -123,11 +124,10 @@ fn merges_back<A: Axis, M: LineMap<A>>(
 {
     let merges = sheet.merge_list();
     if route.is_edited {
-        if let Some(kept) = &kept.merges {
-            return merges.restore(alloc, route, kept);
-        }
+        regained(alloc, route, merges, kept.merges.as_ref())
+    } else {
+        merges.carry(alloc, &route.back())
     }
-    merges.carry(alloc, &route.back())
 }
 
 /// The conditional rules of a sheet taken back: on the edited sheet the kept ones, and each other one
@@ -170,14 +170,9 @@ fn sheet_back<A: Axis, M: LineMap<A>>(
     // For the proof: what lies inside.
     places_inside(cells);
     places_inside(links);
-    let cells = map_back(
-        alloc,
-        &route,
-        &SheetTrees { formulas, id },
-        &kept.cells,
-        cells,
-    )?;
-    let links = map_back(alloc, &route, &NoParts {}, &kept.links, links)?;
+    let (trees, along) = (SheetTrees { formulas, id }, route.is_edited);
+    let cells = map_back(alloc, &route, &trees, along, &kept.cells, cells)?;
+    let links = map_back(alloc, &route, &NoParts {}, along, &kept.links, links)?;
     let rows = lines_back(alloc, &route, kept, sheet.row_map())?;
     let columns = lines_back(alloc, &route, kept, sheet.column_map())?;
     let merges = merges_back(alloc, &route, kept, sheet)?;

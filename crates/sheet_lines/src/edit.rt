@@ -9,13 +9,13 @@ ghost use Rattle.sheet_lines.specs.Sheets.{sheet_of, name_of, IsPlacedBook};
 
 use crate::edited_sheet::EditedSheet;
 use crate::followed::{KeptOfCells, edited_by, followed_with_kept};
-use crate::inside::{lines_inside, places_inside};
-use crate::keeping::{lost_attributes, lost_links};
+use crate::inside::places_inside;
+use crate::keeping::lost_attributes;
 use crate::kept::KeptLines;
 use crate::sheets::{route_on, sheet_of};
 use base_axis::Axis;
 use base_values::EditError;
-use line_map::{Follower, LineEdit, LineMap};
+use line_map::{Follower, LineEdit, LineMap, kept_map};
 use rule_lines::kept_rules;
 use sheet_grid::Workbook;
 use std::alloc::Global;
@@ -44,16 +44,16 @@ fn kept_lines<A: Axis, M: LineMap<A>>(
     // For the proof: what lies inside.
     places_inside(sheet.cell_map());
     places_inside(sheet.link_map());
-    lines_inside(sheet.row_map());
-    lines_inside(sheet.column_map());
+    places_inside(sheet.row_map());
+    places_inside(sheet.column_map());
     let route = route_on(edited, sheet);
-    let links = lost_links(alloc, edited, sheet)?;
+    let links = kept_map(alloc, &route, sheet.link_map())?;
     let lines = lost_attributes(alloc, edited, sheet)?;
     let merges = sheet.merge_list().part(alloc, &route)?;
     let formattings = kept_rules(alloc, &route, sheet.conditional_formatting())?;
     Ok(KeptLines {
         cells: cells.lost.unwrap(),
-        links,
+        links: links.lost,
         lines,
         formulas: cells.formulas,
         merges,

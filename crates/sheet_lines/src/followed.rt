@@ -6,7 +6,9 @@ ghost use Rattle.base_values.specs.declared.EditError.TheVariants.{NoMemory};
 ghost use Rattle.base_maps.specs.Carried.{lost_map};
 ghost use Rattle.base_maps.specs.Tagged.{put_under};
 ghost use Rattle.line_edits.specs.Edit.{IsValid, opposite_of};
+ghost use Rattle.line_map.specs.Attributes.{lines_carried};
 ghost use Rattle.line_routes.specs.Way.{place_goes, way};
+ghost use Rattle.sheet_grid.specs.contracts.line_attr.LineAttrPartialEq.TheImpl as attribute;
 ghost use Rattle.sheet_grid.specs.CanonicalCell.{CanonicalCells};
 ghost use Rattle.sheet_lines.specs.Followed.{way_on, sheet_followed, book_followed};
 ghost use Rattle.sheet_lines.specs.Kept.{trees_kept, first_lost, formulas_kept};
@@ -14,18 +16,26 @@ ghost use Rattle.sheet_lines.specs.CanonicalNumbers.{AreCanonicalFormulas};
 ghost use Rattle.sheet_lines.specs.Sheets.{sheet_of, name_of, IsPlacedSheet, IsPlacedBook};
 
 use crate::edited_sheet::EditedSheet;
-use crate::inside::{lines_inside, places_inside};
+use crate::inside::places_inside;
 use crate::sheets::{name_of, route_on};
-use base_axis::Axis;
-use base_maps::{PositionMap, SheetPlaceMap};
+use base_axis::{Axis, AxisMap};
+use base_maps::{PositionKeys, PositionMap, SheetPlaceMap};
 use base_shared::Shared;
 use base_values::{EditError, Items, PlaceMap};
 use formula_tree::Node;
 use line_map::{Follower, KeptMap, LineEdit, LineMap, Route, carried_with_kept};
 use rule_lines::carried_rules;
-use sheet_grid::{Cell, Workbook, Worksheet};
+use sheet_grid::{Cell, LineAttr, Workbook, Worksheet};
 use std::alloc::Global;
 use std::marker::PhantomData;
+
+/// What is kept of the cells of a sheet.
+type KeptCells = KeptMap<
+    PositionKeys<Shared<Cell>>,
+    PositionKeys<Shared<Node>>,
+    Shared<Cell>,
+    Shared<Node>,
+>;
 
 /// What is kept of the cells of a workbook's sheets.
 #[derive(Drop)]
@@ -35,6 +45,21 @@ pub(crate) struct KeptOfCells {
     /// The trees of the other formulas that do not come back, by the ids of their sheets and their
     /// positions before the edit.
     pub(crate) formulas: SheetPlaceMap<Shared<Node>>,
+}
+
+/// What the lines of an axis have, carried along.
+fn lines_followed<A: Axis, B: Axis, M: LineMap<A>>(
+    alloc: Global,
+    route: &Route<'_, A, M>,
+    lines: &AxisMap<B, LineAttr>,
+) -> Result<AxisMap<B, LineAttr>, EditError>
+    ensures lines { IfOk result (λ followed. followed ≡ lines_carried B.along attribute.ghosts.eq (way route.now) lines.now) }
+    ensures only { IsOkUnless result NoMemory }
+{
+    // For the proof: what lies inside.
+    places_inside(lines);
+    route.is_way();
+    lines.carry(alloc, route)
 }
 
 /// A sheet with these cells, whose links, rows, columns, merges and conditional rules are carried
@@ -52,11 +77,9 @@ fn followed_with<A: Axis, M: LineMap<A>>(
 {
     // For the proof: what lies inside.
     places_inside(sheet.link_map());
-    lines_inside(sheet.row_map());
-    lines_inside(sheet.column_map());
     let links = sheet.link_map().carry(alloc, route)?;
-    let rows = sheet.row_map().carry(alloc, route)?;
-    let columns = sheet.column_map().carry(alloc, route)?;
+    let rows = lines_followed(alloc, route, sheet.row_map())?;
+    let columns = lines_followed(alloc, route, sheet.column_map())?;
     let merges = sheet.merge_list().carry(alloc, route)?;
     let formattings = carried_rules(alloc, route, sheet.conditional_formatting())?;
     sheet.with_entries(cells, links, rows, columns, merges, formattings)
@@ -84,7 +107,7 @@ fn followed_and_kept<A: Axis, M: LineMap<A>>(
     alloc: Global,
     edited: &EditedSheet<'_, A, M>,
     sheet: &Worksheet,
-) -> Result<(Worksheet, KeptMap<Shared<Cell>, Shared<Node>>), EditError>
+) -> Result<(Worksheet, KeptCells), EditError>
     requires { IsPlacedSheet sheet.now }
     ensures sheet { IfOk result (λ both. both.0 ≡ sheet_followed (way_on edited.now sheet.now) sheet.now) }
     ensures lost { IfOk result (λ both. both.1.lost ≡ lost_map (place_goes (way_on edited.now sheet.now)) sheet.now.cells) }
@@ -105,7 +128,7 @@ fn with_sheet<A: Axis, M: LineMap<A>>(
     edited: &EditedSheet<'_, A, M>,
     kept: KeptOfCells,
     sheet: &Worksheet,
-    more: KeptMap<Shared<Cell>, Shared<Node>>,
+    more: KeptCells,
 ) -> Result<KeptOfCells, EditError>
     ensures lost { IfOk result (λ all. all.lost ≡ option_or kept.lost (then_some (sheet.now.id == edited.now.id) more.lost)) }
     ensures formulas { IfOk result (λ all. all.formulas ≡ put_under sheet.now.id more.parts kept.formulas) }

@@ -1,43 +1,50 @@
-ghost use Rattle.std.specs.Prelude.{◌≡◌, IfOk, IsOkUnless};
+ghost use Rattle.std.specs.Prelude.{◌≡◌, ◌==◌, true, IfOk, IsOkUnless};
 ghost use Rattle.base_values.specs.declared.EditError.TheVariants.{NoMemory};
 ghost use Rattle.base_maps.specs.Carried.{lost_map};
-ghost use Rattle.line_routes.specs.Way.{place_goes};
-ghost use Rattle.sheet_lines.specs.Followed.{way_on};
+ghost use Rattle.line_map.specs.Attributes.{line_goes_along};
+ghost use Rattle.line_routes.specs.Way.{way};
 ghost use Rattle.sheet_lines.specs.Kept.{lines_of};
 
 use crate::edited_sheet::EditedSheet;
+use crate::inside::places_inside;
 use crate::sheets::route_on;
-use base_axis::Axis;
-use base_maps::{NumberMap, PositionMap};
+use base_axis::{Axis, AxisMap};
+use base_maps::NumberMap;
 use base_values::EditError;
-use line_map::{LineMap, lost_lines, lost_places};
-use sheet_grid::{LineAttr, Link, Worksheet};
+use line_map::{LineMap, Route, kept_map};
+use sheet_grid::{LineAttr, Worksheet};
 use std::alloc::Global;
 
-/// The links of a sheet whose places go nowhere.
-pub(crate) fn lost_links<A: Axis, M: LineMap<A>>(
+/// What the lines of the edited axis of the edited sheet have of their own, that go nowhere.
+fn lost_of_lines<A: Axis, B: Axis, M: LineMap<A>>(
     alloc: Global,
-    edited: &EditedSheet<'_, A, M>,
-    sheet: &Worksheet,
-) -> Result<PositionMap<Link>, EditError>
-    ensures links { IfOk result (λ lost. lost ≡ lost_map (place_goes (way_on edited.now sheet.now)) sheet.now.links) }
+    route: &Route<'_, A, M>,
+    lines: &AxisMap<B, LineAttr>,
+) -> Result<NumberMap<LineAttr>, EditError>
+    requires { line_goes_along B.along (way route.now) ≡ true }
+    ensures lines { IfOk result (λ lost. lost ≡ lost_map (way route.now).moves.to lines.now) }
     ensures only { IsOkUnless result NoMemory }
 {
-    lost_places(alloc, &route_on(edited, sheet), sheet.link_map())
+    // For the proof: what lies inside.
+    places_inside(lines);
+    let kept = kept_map(alloc, route, lines)?;
+    Ok(kept.lost)
 }
 
-/// What the lines of the edited axis that go nowhere have of their own.
+/// What the lines of the edited axis that go nowhere have of their own on the edited sheet.
 pub(crate) fn lost_attributes<A: Axis, M: LineMap<A>>(
     alloc: Global,
     edited: &EditedSheet<'_, A, M>,
     sheet: &Worksheet,
 ) -> Result<NumberMap<LineAttr>, EditError>
+    requires { (sheet.now.id == edited.now.id) ≡ true }
     ensures lines { IfOk result (λ lost. lost ≡ lost_map (M.moves edited.now.map.now).to (lines_of A.along sheet.now)) }
     ensures only { IsOkUnless result NoMemory }
 {
+    let route = route_on(edited, sheet);
     if A::of(true, false) {
-        lost_lines(alloc, edited.map, sheet.row_map())
+        lost_of_lines(alloc, &route, sheet.row_map())
     } else {
-        lost_lines(alloc, edited.map, sheet.column_map())
+        lost_of_lines(alloc, &route, sheet.column_map())
     }
 }

@@ -32,10 +32,10 @@ as_it_is (Some x) = refl
 
 module _ {K : Type 0} (R : K → K → Ordering) (total : IsTotalOrder R) (exact : CmpEqualImpliesEq R) (to from : K → Option K) (i : Inverse to from) where
   -- what a carried map has at a key
-  pub get-carried_map : {X Y : Type 0} (carry : K → K → X → Y) (m : FinMap R X) (q : K) → get (carried_map to carry m) q ≡ if_there (from q) (λ p. if_there (get m p) (λ x. Some (carry p q x)))
+  pub get-carried_map : {X Y : Type 0} (carry : K → K → X → Y) (m : FinMap R X) (q : K) → get (carried_map to from carry m) q ≡ if_there (from q) (λ p. if_there (get m p) (λ x. Some (carry p q x)))
   get-carried_map carry m q = get-gathered R total exact to from i (λ p q x. Some (carry p q x)) m q
 
-  pub get-moved_map : {X : Type 0} (m : FinMap R X) (q : K) → get (moved_map to m) q ≡ if_there (from q) (get m)
+  pub get-moved_map : {X : Type 0} (m : FinMap R X) (q : K) → get (moved_map to from m) q ≡ if_there (from q) (get m)
   get-moved_map m q = get-carried_map (λ _ _ x. x) m q ∙ at_key (from q)
     where
       at_key : (s : Option K) → if_there s (λ p. if_there (get m p) (λ x. Some x)) ≡ if_there s (get m)
@@ -52,10 +52,10 @@ module _ {K : Type 0} (R : K → K → Ordering) (total : IsTotalOrder R) (exact
     settled_value p q (Some x) h there each = ap Some (each p q x there h)
 
     abbrev gone : FinMap R X
-    gone = carried_map to carry m
+    gone = carried_map to from carry m
 
     abbrev returned : FinMap R X
-    returned = carried_map from (λ q p x. settled (home p q) (restore p q) (parts p) x) gone
+    returned = carried_map from to (λ q p x. settled (home p q) (restore p q) (parts p) x) gone
 
     returned_at : Settles → (p : K) (t : Option K) → to p ≡ t → if_there t (λ q. if_there (get gone q) (λ y. Some (settled (home p q) (restore p q) (parts p) y))) ≡ cond (is_some t) (get m p) None
     returned_at each p None h = refl

@@ -56,7 +56,7 @@ module _ {K X : Type 0} (R : K → K → Ordering) where
     keys_lost P to m all = each_found (λ k _. P k) (lost_map to m) (each_lost (λ k _. P k) to m (each_from (λ k _. P k) m all))
 
     pub each_gathered : {Y : Type 0} (P : K → Y → Type 0) (to from : K → Option K) → Inverse to from → (make : K → K → X → Option Y) (m : FinMap R X) →
-        ((p q : K) (x : X) → to p ≡ Some q → get m p ≡ Some x → IfSome (make p q x) (P q)) → Each P (gathered to make m)
+        ((p q : K) (x : X) → to p ≡ Some q → get m p ≡ Some x → IfSome (make p q x) (P q)) → Each P (gathered to from make m)
     each_gathered {Y} P to from i make m all q = subst (λ o. IfSome o (P q)) (sym (get-gathered R total exact to from i make m q)) (by_source (from q) refl)
       where
         by_value : (p : K) → from q ≡ Some p → (v : Option X) → get m p ≡ v → IfSome (if_there v (make p q)) (P q)

@@ -1,17 +1,16 @@
 -- What stands at each key of a map that is gathered, and how such a map is made entry by entry.
 use Rattle.std.proofs.Common.{◌≡◌, Bool, true, false, cond, T, List, [], ◌∷◌, ◌++◌, Option, Some, None, refl, ap, sym, ◌∙◌, append_assoc}
-use Rattle.std.specs.Prelude.{is_some, is_none, if◌then◌else◌}
-use Rattle.std.specs.List.{filter_map, cons_option}
+use Rattle.std.specs.Prelude.{is_some, is_none, ◌||◌, if◌then◌else◌}
+use Rattle.std.specs.List.{filter_map, cons_option, list_any}
 use Rattle.std.specs.declared.cmp.Ordering.{Ordering}
 use Rattle.std.specs.Ordering.{eq_by_cmp}
 use Rattle.std.specs.Cmp.{IsTotalOrder}
 use Rattle.std.proofs.lemmas.Map.Lookups.{CmpEqualImpliesEq}
 use Rattle.std.specs.FinMap.Entries.{find, is_sorted}
-use Rattle.std.specs.FinMap.{FinMap, empty, entries, entries_sorted, from_entries, get, get-entries, get-from_entries, get-retain_keys, get-empty, insert, get-insert, same_map, from_entries_push}
+use Rattle.std.specs.FinMap.{FinMap, contains_key-keys, empty, entries, entries_sorted, from_entries, get, get-entries, get-from_entries, get-retain_keys, get-empty, insert, get-insert, keys, same_map, from_entries_push}
 use Rattle.std.proofs.lemmas.List.{append-nil}
 use Rattle.base_values.specs.KeyMap.{with_entries}
-use Rattle.base_maps.specs.Carried.{if_there, entry_made, gathered, if_lost, lost_map, overlaid}
-use Rattle.base_maps.specs.Carried.{Inverse}
+use Rattle.base_maps.specs.Carried.{Inverse, if_there, entry_made, gathered, if_lost, lost_map, map_at, overlaid}
 use Rattle.base_maps.specs.laws.Inverses.{own_inverse}
 use Rattle.base_maps.specs.laws.Keys.{one_key, own_key, apart_keys, first_once, sorted_rest, sorted_front, not_before}
 
@@ -28,6 +27,85 @@ with_last es (Some e) = es ++ e ∷ []
 test_of : (b : Bool) → T b → b ≡ true
 test_of true h = refl
 test_of false h = absurd h
+
+-- ---- a map that is said by its entries
+
+or_true : (b : Bool) → (b || true) ≡ true
+or_true true = refl
+or_true false = refl
+
+or_first : (a b : Bool) → a ≡ true → (a || b) ≡ true
+or_first true b h = refl
+or_first false b h = absurd (cc)
+
+or_second : (a b : Bool) → b ≡ true → (a || b) ≡ true
+or_second a b h = ap (λ c. a || c) h ∙ or_true a
+
+any_append : {X : Type 0} (test : X → Bool) (xs ys : List X) → list_any test (xs ++ ys) ≡ (list_any test xs || list_any test ys)
+any_append test [] ys = refl
+any_append test (x ∷ xs) ys = elim (test x) as (λ b. (b || list_any test (xs ++ ys)) ≡ ((b || list_any test xs) || list_any test ys))
+    [ true ↦ refl | false ↦ any_append test xs ys ]
+
+-- nothing, whichever way a test goes
+nothing_there : {X : Type 0} (b : Bool) (v : Option X) → v ≡ None → cond b v None ≡ v
+nothing_there true v h = refl
+nothing_there false v h = sym h
+
+-- one of these keys is that one
+abbrev Among : {K : Type 0} → (K → K → Ordering) → List K → K → Type 0
+Among R places q = list_any (eq_by_cmp R q) places ≡ true
+
+module _ {K X : Type 0} (R : K → K → Ordering) (total : IsTotalOrder R) (exact : CmpEqualImpliesEq R) where
+  module _ (at : K → Option X) where
+    abbrev entry_there : K → Option X → Option (K × X)
+    entry_there k o = if_there o (λ x. Some (k, x))
+
+    find_at : (places : List K) (q : K) → find R q (filter_map (λ k. entry_there k (at k)) places) ≡ cond (list_any (eq_by_cmp R q) places) (at q) None
+    find_at [] q = refl
+    find_at (k ∷ places) q = by_value (find_at places q) (eq_by_cmp R q k) refl (at k) refl
+      where
+        by_value : find R q (filter_map (λ k. entry_there k (at k)) places) ≡ cond (list_any (eq_by_cmp R q) places) (at q) None → (b : Bool) → eq_by_cmp R q k ≡ b → (o : Option X) → at k ≡ o →
+            find R q (cons_option (entry_there k o) (filter_map (λ k. entry_there k (at k)) places)) ≡ cond (b || list_any (eq_by_cmp R q) places) (at q) None
+        by_value rest true same None is =
+            let none : at q ≡ None = ap at (one_key R total exact q k same) ∙ is in
+            rest ∙ nothing_there (list_any (eq_by_cmp R q) places) (at q) none
+        by_value rest true same (Some x) is =
+            ap (λ b. cond b (Some x) (find R q (filter_map (λ k. entry_there k (at k)) places))) same
+            ∙ sym is ∙ ap at (sym (one_key R total exact q k same))
+        by_value rest false apart None is = rest
+        by_value rest false apart (Some x) is = ap (λ b. cond b (Some x) (find R q (filter_map (λ k. entry_there k (at k)) places))) apart ∙ rest
+
+    -- a map has at each of its keys what the function gives there
+    pub get-map_at : (places : List K) (q : K) → ((x : X) → at q ≡ Some x → Among R places q) → get (map_at {R = R} places at) q ≡ at q
+    unfolding map_at
+    get-map_at places q among =
+        get-from_entries total (filter_map (λ k. entry_there k (at k)) places) q ∙ find_at places q ∙ by_value (at q) refl
+      where
+        by_value : (o : Option X) → at q ≡ o → cond (list_any (eq_by_cmp R q) places) (at q) None ≡ at q
+        by_value None is = nothing_there (list_any (eq_by_cmp R q) places) (at q) is
+        by_value (Some x) is = ap (λ b. cond b (at q) None) (among x is)
+
+  -- a key that has an entry is among the keys of the map
+  pub key_among : (m : FinMap R X) (p : K) (x : X) → get m p ≡ Some x → Among R (keys m) p
+  key_among m p x h = sym (contains_key-keys m p) ∙ ap is_some h
+
+module _ {K : Type 0} (R : K → K → Ordering) (total : IsTotalOrder R) (exact : CmpEqualImpliesEq R) where
+  -- where it goes is among the keys where they go
+  pub goal_among : (to : K → Option K) (p q : K) → to p ≡ Some q → (places : List K) → Among R places p → Among R (filter_map to places) q
+  goal_among to p q there [] h = absurd (cc)
+  goal_among to p q there (k ∷ places) h = by_key (goal_among to p q there places) (eq_by_cmp R p k) refl h
+    where
+      behind : (o : Option K) → Among R (filter_map to places) q → Among R (cons_option o (filter_map to places)) q
+      behind None rest = rest
+      behind (Some r) rest = or_second (eq_by_cmp R q r) (list_any (eq_by_cmp R q) (filter_map to places)) rest
+
+      by_key : (Among R places p → Among R (filter_map to places) q) → (b : Bool) → eq_by_cmp R p k ≡ b → (b || list_any (eq_by_cmp R p) places) ≡ true → Among R (cons_option (to k) (filter_map to places)) q
+      by_key rest true same g =
+          ap (λ o. list_any (eq_by_cmp R q) (cons_option o (filter_map to places))) (ap to (sym (one_key R total exact p k same)) ∙ there)
+          ∙ or_first (eq_by_cmp R q q) (list_any (eq_by_cmp R q) (filter_map to places)) (own_key R total exact q)
+      by_key rest false apart g = behind (to k) (rest g)
+
+-- ---- a map whose entries go along
 
 module _ {K X Y : Type 0} (R : K → K → Ordering) (total : IsTotalOrder R) (exact : CmpEqualImpliesEq R) (to from : K → Option K) (i : Inverse to from) (make : K → K → X → Option Y) where
   -- what the entries of a list make at a key
@@ -83,16 +161,29 @@ module _ {K X Y : Type 0} (R : K → K → Ordering) (total : IsTotalOrder R) (e
   find-output (e ∷ es) sorted q = by_target e es sorted q (find-output es (sorted_rest R e es sorted) q) (to e.0) refl
 
   -- a gathered map has at a key what the entry makes whose key goes there
-  pub get-gathered : (m : FinMap R X) (q : K) → get (gathered to make m) q ≡ if_there (from q) (λ p. if_there (get m p) (make p q))
+  pub get-gathered : (m : FinMap R X) (q : K) → get (gathered to from make m) q ≡ if_there (from q) (λ p. if_there (get m p) (make p q))
   unfolding gathered
-  get-gathered m q =
+  get-gathered m q = get-map_at R total exact (λ q. if_there (from q) (λ p. if_there (get m p) (make p q))) (filter_map to (keys m)) q (by_source (from q) refl)
+    where
+      by_entry : (p : K) → from q ≡ Some p → (v : Option X) → get m p ≡ v → (y : Y) → if_there v (make p q) ≡ Some y → Among R (filter_map to (keys m)) q
+      by_entry p came None held y h = absurd (cc)
+      by_entry p came (Some x) held y h = goal_among R total exact to p q (i.forth p q came) (keys m) (key_among R total exact m p x held)
+
+      by_source : (s : Option K) → from q ≡ s → (y : Y) → if_there s (λ p. if_there (get m p) (make p q)) ≡ Some y → Among R (filter_map to (keys m)) q
+      by_source None came y h = absurd (cc)
+      by_source (Some p) came y h = by_entry p came (get m p) refl y h
+
+  -- put in one after another, what the entries make is that map
+  pub gathered_by_turns : (m : FinMap R X) → from_entries {R = R} (filter_map (entry_made to make) (entries m)) ≡ gathered to from make m
+  gathered_by_turns m = same_map total exact _ _ (λ q.
       get-from_entries total (filter_map (entry_made to make) (entries m)) q
       ∙ find-output (entries m) (test_of _ (entries_sorted m)) q
-      ∙ at_key (from q)
+      ∙ at_key q (from q)
+      ∙ sym (get-gathered m q))
     where
-      at_key : (s : Option K) → made_at (entries m) q s ≡ if_there s (λ p. if_there (get m p) (make p q))
-      at_key None = refl
-      at_key (Some p) = ap (λ v. if_there v (make p q)) (sym (get-entries m p))
+      at_key : (q : K) (s : Option K) → made_at (entries m) q s ≡ if_there s (λ p. if_there (get m p) (make p q))
+      at_key q None = refl
+      at_key q (Some p) = ap (λ v. if_there v (make p q)) (sym (get-entries m p))
 
   last_made : (o : Option (K × Y)) → cons_option o [] ≡ with_last [] o
   last_made None = refl
@@ -144,9 +235,8 @@ module _ {K X Y : Type 0} (R : K → K → Ordering) (total : IsTotalOrder R) (e
       one_more None = refl
       one_more (Some f) = refl
 
-  pub gathered_in_turn : (m : FinMap R X) → with_entries empty (filter_map (entry_made to make) (entries m)) ≡ gathered to make m
-  unfolding gathered
-  gathered_in_turn m = made_in_turn [] (entries m) (test_of _ (entries_sorted m))
+  pub gathered_in_turn : (m : FinMap R X) → with_entries empty (filter_map (entry_made to make) (entries m)) ≡ gathered to from make m
+  gathered_in_turn m = made_in_turn [] (entries m) (test_of _ (entries_sorted m)) ∙ gathered_by_turns m
 
 -- the entries of a map are in order
 pub rises_of : {K X : Type 0} {R : K → K → Ordering} (m : FinMap R X) (ys : List (K × X)) (e : K × X) (zs : List (K × X)) → ys ++ e ∷ zs ≡ entries m → is_sorted R (ys ++ e ∷ zs) ≡ true
@@ -166,12 +256,17 @@ module _ {K X : Type 0} (R : K → K → Ordering) (total : IsTotalOrder R) (exa
   -- a map with entries laid over it has these, and its own elsewhere
   pub get-overlaid : (over m : FinMap R X) (q : K) → get (overlaid over m) q ≡ cond (is_some (get over q)) (get over q) (get m q)
   unfolding overlaid
-  get-overlaid over m q =
-      get-from_entries total (entries over ++ entries m) q ∙ find-both (entries over) (entries m) q
-      ∙ (λ j. cond (is_some (sym (get-entries over q) j)) (sym (get-entries over q) j) (sym (get-entries m q) j))
+  get-overlaid over m q = get-map_at R total exact (λ q. if is_some (get over q) then get over q else get m q) (keys over ++ keys m) q (by_entry (get over q) refl)
+    where
+      either : (a b : Bool) → (a || b) ≡ true → list_any (eq_by_cmp R q) (keys over) ≡ a → list_any (eq_by_cmp R q) (keys m) ≡ b → Among R (keys over ++ keys m) q
+      either a b h one two = any_append (eq_by_cmp R q) (keys over) (keys m) ∙ (λ j. one j || two j) ∙ h
+
+      by_entry : (o : Option X) → get over q ≡ o → (x : X) → (if is_some o then o else get m q) ≡ Some x → Among R (keys over ++ keys m) q
+      by_entry None is x h = either _ true (or_true (list_any (eq_by_cmp R q) (keys over))) refl (key_among R total exact m q x h)
+      by_entry (Some y) is x h = either true _ refl (key_among R total exact over q y is) refl
 
   -- gathered one by one, the lost entries are those
-  pub lost_gathered : (to : K → Option K) (m : FinMap R X) → gathered Some (if_lost to) m ≡ lost_map to m
+  pub lost_gathered : (to : K → Option K) (m : FinMap R X) → gathered Some Some (if_lost to) m ≡ lost_map to m
   lost_gathered to m = same_map total exact _ _ (λ p.
       get-gathered R total exact Some Some own_inverse (if_lost to) m p ∙ at_key (is_none (to p)) (get m p) ∙ sym (get-lost_map to m p))
     where

@@ -58,7 +58,7 @@ module _ {A K X Y : Type 0} {R : K → K → Ordering} (total : IsTotalOrder R) 
 
   -- all entries are seen, and the map of the list is the gathered one
   pub listed_all : {from : K → Option K} → Inverse to from → (rest : List (K × X)) {r : Option A} → r ≡ None → TakesFirst shows left r rest →
-      with_entries (empty {R = R}) before ≡ gathered to make m
+      with_entries (empty {R = R}) before ≡ gathered to from make m
   listed_all {from = from} i rest {r = r} is steps =
       let whole : map shows seen ≡ entries m = sym (append-nil (map shows seen)) ∙ ap (λ es. map shows seen ++ es) (sym (rest_all shows left rest r is steps))
       ∙ so_far.all in

@@ -36,8 +36,10 @@ module _ {A K X : Type 0} {R : K → K → Ordering} (total : IsTotalOrder R) (e
     }
 
     -- all entries are seen
-    pub made_all : (rest : List (K × X)) {r : Option A} → r ≡ None → TakesFirst shows left r rest → before ≡ gathered to make m
-    made_all rest {r = r} is steps = so_far.now ∙ end_made R total exact shows m seen left so_far.all (rest_all shows left rest r is steps) to make
+    pub made_all : {from : K → Option K} → Inverse to from → (rest : List (K × X)) {r : Option A} → r ≡ None → TakesFirst shows left r rest →
+        before ≡ gathered to from make m
+    made_all {from = from} i rest {r = r} is steps =
+        so_far.now ∙ end_made R total exact shows m seen left so_far.all (rest_all shows left rest r is steps) to from i make
 
   module _ {own before : FinMap R X} (so_far : Laid shows m own seen left before) where
     pub laid_held : (rest : List (K × X)) {r : Option A} (y : A) → r ≡ Some y → TakesFirst shows left r rest → get m (shows y).0 ≡ Some (shows y).1

@@ -8,7 +8,7 @@ use Rattle.std.specs.List.{All, filter_map}
 use Rattle.std.specs.FinMap.{FinMap, entries, from_entries, from_entries_push, get, insert}
 use Rattle.base_maps.specs.Carried.{entry_made, gathered, overlaid}
 use Rattle.base_maps.specs.Carried.{Inverse}
-use Rattle.base_maps.specs.laws.Gathering.{with_made, gathered_more, rises_of, held_between, overlaid_more, own_entries}
+use Rattle.base_maps.specs.laws.Gathering.{with_made, gathered_by_turns, gathered_more, rises_of, held_between, overlaid_more, own_entries}
 use Rattle.base_maps.specs.laws.Keys.{not_before}
 
 map_push : {A X : Type 0} (shows : A → X) (ys : List A) (y : A) → map shows (ys ++ y ∷ []) ≡ map shows ys ++ shows y ∷ []
@@ -53,9 +53,9 @@ module _ {A K X : Type 0} (R : K → K → Ordering) (total : IsTotalOrder R) (e
   whole = sym (append-nil (map shows ys)) ∙ ap (λ es. map shows ys ++ es) (sym over) ∙ all
 
   -- all entries are seen
-  pub end_made : {Y : Type 0} (to : K → Option K) (make : K → K → X → Option Y) → from_entries {R = R} (filter_map (entry_made to make) (map shows ys)) ≡ gathered to make m
-  unfolding gathered
-  end_made to make = ap (λ es. from_entries (filter_map (entry_made to make) es)) whole
+  pub end_made : {Y : Type 0} (to from : K → Option K) → Inverse to from → (make : K → K → X → Option Y) →
+      from_entries {R = R} (filter_map (entry_made to make) (map shows ys)) ≡ gathered to from make m
+  end_made to from i make = ap (λ es. from_entries (filter_map (entry_made to make) es)) whole ∙ gathered_by_turns R total exact to from i make m
 
   pub end_laid : (own : FinMap R X) → overlaid (from_entries (map shows ys)) own ≡ overlaid m own
   end_laid own = ap (λ es. overlaid (from_entries es) own) whole ∙ ap (λ n. overlaid n own) (own_entries R total exact m)

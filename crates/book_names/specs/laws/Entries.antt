@@ -6,10 +6,11 @@ use Rattle.std.specs.Ordering.{is_lt}
 use Rattle.std.specs.Cmp.{IsTotalOrder}
 use Rattle.std.specs.List.{cons_option, filter_map, find, list_all}
 use Rattle.std.proofs.lemmas.Map.Lookups.{CmpEqualImpliesEq}
-use Rattle.std.specs.FinMap.{FinMap, entries, entries_sorted, from_entries, get}
+use Rattle.std.specs.FinMap.{FinMap, empty, entries, entries_sorted, from_entries, get, get-empty}
 use Rattle.std.specs.FinMap.Entries.{below_all, is_sorted}
-use Rattle.base_maps.specs.Carried.{carried_map, entry_made, gathered, if_there}
+use Rattle.base_maps.specs.Carried.{carried_map, entry_made, if_there}
 use Rattle.base_maps.specs.laws.CarriedLaws.{get-carried_map}
+use Rattle.base_maps.specs.laws.Gathering.{gathered_by_turns}
 use Rattle.base_maps.specs.laws.Inverses.{own_inverse}
 use Rattle.base_maps.specs.laws.Known.{entries_again}
 use Rattle.sheet_rules.specs.laws.EntryLaws.{passes_at_from_all, all_from_passes_at}
@@ -38,14 +39,14 @@ module _ {K X Y : Type 0} (R : K → K → Ordering) (f : K → X → Y) where
 
   module _ (total : IsTotalOrder R) (exact : CmpEqualImpliesEq R) (m : FinMap R X) where
     -- what it has at each key
-    pub get_changed : (k : K) → get (carried_map Some (λ _ q x. f q x) m) k ≡ if_there (get m k) (λ x. Some (f k x))
+    pub get_changed : (k : K) → get (carried_map Some Some (λ _ q x. f q x) m) k ≡ if_there (get m k) (λ x. Some (f k x))
     get_changed k = get-carried_map R total exact Some Some own_inverse (λ _ q x. f q x) m k
 
     -- its entries
-    pub entries_changed : entries (carried_map {R = R} Some (λ _ q x. f q x) m) ≡ map entry_changed (entries m)
-    unfolding gathered
+    pub entries_changed : entries (carried_map {R = R} Some Some (λ _ q x. f q x) m) ≡ map entry_changed (entries m)
     entries_changed =
-        ap (λ es. entries (from_entries {R = R} es)) (each_made (entries m))
+        ap entries (sym (gathered_by_turns R total exact Some Some own_inverse (λ _ q x. Some (f q x)) m))
+        ∙ ap (λ es. entries (from_entries {R = R} es)) (each_made (entries m))
         ∙ entries_again R total exact (map entry_changed (entries m)) (still_sorted (entries m) ∙ holds (is_sorted R (entries m)) (entries_sorted m))
 
 -- ---- what holds of every entry of a map
@@ -62,6 +63,10 @@ module _ {K X : Type 0} (R : K → K → Ordering) (total : IsTotalOrder R) (exa
       go : (k : K) (o : Option X) → get m k ≡ o → passes k o ≡ true
       go k None is = refl
       go k (Some x) is = h k x is
+
+  -- so all that is asked holds of an empty map
+  pub none_fails : list_all P (entries (empty {R = R})) ≡ true
+  none_fails = all_entries empty (λ k x found. absurd (let never : ◌≡◌ {A = Option X} None (Some x) = sym (get-empty R k) ∙ found in cc))
 
   -- and what holds of every entry holds of those
   pub entry_holds : (m : FinMap R X) → list_all P (entries m) ≡ true → (k : K) (x : X) → get m k ≡ Some x → P (k, x) ≡ true

@@ -1,5 +1,5 @@
 -- The numbers of renamed trees, of kept ones and of those that come back are canonical.
-use Rattle.std.proofs.Common.{◌≡◌, ℕ, List, [], ◌∷◌, map, Option, Some, None, refl, sym, subst}
+use Rattle.std.proofs.Common.{ℕ, List, [], ◌∷◌, map, Option, Some, None, sym, subst}
 use Rattle.std.specs.Prelude.{IsTrue, IfSome}
 use Rattle.std.specs.List.{AllByRecursion}
 use Rattle.std.specs.FinMap.{FinMap}
@@ -13,39 +13,30 @@ use Rattle.base_maps.specs.laws.Each.{each_found, each_gathered}
 use Rattle.base_maps.specs.laws.Inverses.{own_inverse}
 use Rattle.formula_tree.specs.declared.Node.{Node}
 use Rattle.formula_tree.specs.declared.numbers.NumberRule.TheVariants.{Canonical}
-use Rattle.formula_tree.specs.Numbers.{has_canonical_numbers}
 use Rattle.formula_names.specs.declared.Reach.{Reach}
 use Rattle.formula_names.specs.declared.Reach.TheVariants.{Sheets}
 use Rattle.formula_names.specs.Renamed.{naming, tree_renamed, tree_kept}
 use Rattle.formula_names.specs.laws.NamedLaws.{numbers-named}
-use Rattle.cell_content.specs.declared.Content.{Content}
-use Rattle.cell_content.specs.CanonicalContent.{IsCanonicalContent}
 use Rattle.cell_content.specs.Lens.{tree_of}
+use Rattle.cell_content.specs.laws.ChangedLaws.{changed-kept}
 use Rattle.cell_content.specs.laws.LensLaws.{tree_of-kept, with_tree-kept}
 use Rattle.defined_names.specs.declared.DefinedName.{DefinedName}
 use Rattle.defined_names.specs.Names.{IsCanonicalName, AreCanonicalNames}
 use Rattle.sheet_grid.specs.declared.Cell.{Cell}
 use Rattle.sheet_grid.specs.CanonicalCell.{IsCanonicalCell, CanonicalCells}
 use Rattle.sheet_lines.specs.CanonicalNumbers.{AreCanonicalFormulas}
-use Rattle.book_names.specs.laws.Cells.{renamed_none, renamed_some}
+use Rattle.sheet_lines.specs.laws.Stays.{HasCanonicalNumbers}
 use Rattle.book_names.specs.laws.Names.{part_is, name_parts_are}
-use Rattle.book_names.specs.Renaming.{content_renamed, cell_renamed, cells_renamed, cell_kept, cells_kept, cell_back, cells_back, defined_renamed, names_kept, with_kept_tree, names_back}
-
-abbrev pub HasCanonicalNumbers : Node → Type 0
-HasCanonicalNumbers tree = IsTrue (has_canonical_numbers tree)
+use Rattle.book_names.specs.Renaming.{cell_renamed, cells_renamed, cell_kept, cells_kept, cell_back, cells_back}
+use Rattle.book_names.specs.Renaming.{defined_renamed, names_kept, with_kept_tree, names_back}
 
 module _ (reach : Reach) (old new : List ℕ) where
   pub tree_numbers : (tree : Node) → HasCanonicalNumbers tree → HasCanonicalNumbers (tree_renamed reach old new tree)
   tree_numbers tree h = subst IsTrue (sym (numbers-named (naming reach old new) Canonical tree)) h
 
-  content_at : (content : Content) (o : Option Node) → tree_of content ≡ o → IsCanonicalContent content → IfSome o HasCanonicalNumbers → IsCanonicalContent (content_renamed reach old new content)
-  content_at content None is h numbers = subst IsCanonicalContent (sym (renamed_none reach old new content is)) h
-  content_at content (Some tree) is h numbers =
-      subst IsCanonicalContent (sym (renamed_some reach old new content tree is)) (with_tree-kept content (tree_renamed reach old new tree) h (tree_numbers tree numbers))
-
   -- a renamed cell has canonical numbers
   pub cell_numbers : (cell : Cell) → IsCanonicalCell cell → IsCanonicalCell (cell_renamed reach old new cell)
-  cell_numbers cell h = content_at cell.content (tree_of cell.content) refl h (tree_of-kept cell.content h)
+  cell_numbers cell h = changed-kept (tree_renamed reach old new) cell.content tree_numbers h
 
   -- so have the cells of a sheet
   pub cells_numbers : (cells : FinMap position_cmp Cell) → CanonicalCells cells → CanonicalCells (cells_renamed reach old new cells)

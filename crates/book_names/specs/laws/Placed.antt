@@ -1,6 +1,6 @@
 -- Kept trees that stand where they stood are placed, and kept conditional rules stand inside their sheets.
 use Rattle.std.proofs.Common.{◌≡◌, ℕ, true, Option, Some, None}
-use Rattle.std.specs.FinMap.{get}
+use Rattle.std.specs.FinMap.{FinMap, get}
 use Rattle.base_values.specs.declared.Position.{Position}
 use Rattle.base_maps.specs.declared.SheetPlace.{SheetPlace}
 use Rattle.base_maps.specs.SheetPlaces.{sheet_place_cmp}
@@ -21,20 +21,23 @@ use Rattle.sheet_lines.specs.Sheets.{sheet_of}
 use Rattle.book_sheets.specs.laws.Placed.{placed_tree}
 use Rattle.book_names.specs.declared.kept_trees.KeptTrees.{KeptTrees}
 use Rattle.book_names.specs.Renaming.{ArePlacedTrees}
-use Rattle.book_names.specs.RenameDiffs.{tree_stands, formulas_stand, formatting_stands, formattings_stand, may_stand}
+use Rattle.book_names.specs.RenameDiffs.{own_place, tree_stands, formulas_stand, formatting_stands, formattings_stand, may_stand}
 use Rattle.book_names.specs.laws.Entries.{entry_holds}
 
-tree_fits : (o : Option Sheet) (place : Position) (tree : Node) → tree_stands o place tree ≡ true → tree_fits_at place tree ≡ true
-unfolding tree_stands
-tree_fits None place tree stands = absurd (cc)
-tree_fits (Some sheet) place tree stands = (both _ _ stands).0
+module _ (seek : Sheet → Position → Option Position) where
+  tree_fits : (o : Option Sheet) (place : Position) (tree : Node) → tree_stands seek o place tree ≡ true → tree_fits_at place tree ≡ true
+  unfolding tree_stands
+  tree_fits None place tree stands = absurd (cc)
+  tree_fits (Some sheet) place tree stands = (both _ _ stands).0
 
-placed_where_stands : (kept : KeptTrees) (book : Book) → formulas_stand kept.formulas book ≡ true → (key : SheetPlace) (tree : Node) → get kept.formulas key ≡ Some tree
-    → is_placed key.place tree ≡ true
-unfolding formulas_stand
-placed_where_stands kept book stand key tree found =
-    placed_tree key.place tree (tree_fits (sheet_of book key.sheet) key.place tree
-    (entry_holds sheet_place_cmp sheet_place_total exact_sheet_places (λ (entry : SheetPlace × Node). tree_stands (sheet_of book entry.0.sheet) entry.0.place entry.1) kept.formulas stand key tree found))
+  -- wherever the formulas are sought
+  pub formulas_placed : (formulas : FinMap sheet_place_cmp Node) (book : Book) → formulas_stand seek formulas book ≡ true
+      → (key : SheetPlace) (tree : Node) → get formulas key ≡ Some tree → is_placed key.place tree ≡ true
+  unfolding formulas_stand
+  formulas_placed formulas book stand key tree found =
+      placed_tree key.place tree (tree_fits (sheet_of book key.sheet) key.place tree
+      (entry_holds sheet_place_cmp sheet_place_total exact_sheet_places
+      (λ (entry : SheetPlace × Node). tree_stands seek (sheet_of book entry.0.sheet) entry.0.place entry.1) formulas stand key tree found))
 
 inside_at : (o : Option Sheet) (index : ℕ) (formatting : ConditionalFormatting) → formatting_stands o index formatting ≡ true → StandsInside formatting
 unfolding formatting_stands
@@ -52,4 +55,4 @@ inside_where_stands kept book stand key formatting found =
 pub placed_where_may : (kept : KeptTrees) (book : Book) → may_stand kept book ≡ true → ArePlacedTrees kept
 placed_where_may kept book may =
     let outer = both _ _ may in
-    record { formulas = placed_where_stands kept book (both _ _ outer.0).0; formattings = inside_where_stands kept book outer.1 }
+    record { formulas = formulas_placed own_place kept.formulas book (both _ _ outer.0).0; formattings = inside_where_stands kept book outer.1 }

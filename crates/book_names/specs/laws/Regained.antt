@@ -1,5 +1,5 @@
 -- Going back with what was kept gives the workbook.
-use Rattle.std.proofs.Common.{◌≡◌, ℕ, Bool, true, false, List, [], ◌∷◌, Option, Some, None, refl, ap, sym, ◌∙◌}
+use Rattle.std.proofs.Common.{◌≡◌, ℕ, Bool, true, false, List, Option, Some, None, refl, ap, sym, ◌∙◌}
 use Rattle.std.specs.Prelude.{◌==◌, if◌then◌else◌}
 use Rattle.std.specs.Cmp.{unsigned_Decides}
 use Rattle.std.specs.FinMap.{get}
@@ -13,7 +13,6 @@ use Rattle.base_maps.specs.laws.Gathering.{get-gathered}
 use Rattle.base_maps.specs.laws.Inverses.{own_inverse}
 use Rattle.base_maps.specs.laws.Tagged.{get-all_under}
 use Rattle.formula_names.specs.declared.Reach.{Reach}
-use Rattle.formula_names.specs.declared.Reach.TheVariants.{Sheets}
 use Rattle.base_maps.specs.TaggedIndexes.{index_on}
 use Rattle.base_maps.specs.laws.TaggedIndexes.{get-all_under as get-indexes_under}
 use Rattle.sheet_grid.specs.declared.Cell.{Cell}

@@ -1,9 +1,8 @@
 -- A sheet whose trees are renamed keeps the rules of a sheet, its formulas stay placed, and its conditional rules stand inside.
-use Rattle.std.proofs.Common.{◌≡◌, ℕ, ℤ, pos, Bool, true, not, ◌&&◌, ◌||◌, List, [], ◌∷◌, map, Option, Some, None, refl, ap, sym, subst, ◌∙◌}
+use Rattle.std.proofs.Common.{◌≡◌, ℕ, ℤ, pos, Bool, true, not, ◌&&◌, ◌||◌, List, [], ◌∷◌, map, Option, Some, None, refl, ap, subst, ◌∙◌}
 use Rattle.std.specs.Prelude.{◌==◌, IfSome, if◌then◌else◌}
 use Rattle.std.specs.List.{AllByRecursion, filter_map, list_all, list_any}
-use Rattle.std.specs.Option.{option_map}
-use Rattle.std.specs.FinMap.{entries, get}
+use Rattle.std.specs.FinMap.{entries}
 use Rattle.base_values.specs.declared.Position.{Position}
 use Rattle.base_values.specs.Places.{is_line, position_cmp, is_place}
 use Rattle.base_values.specs.laws.Places.{position_total, exact_positions}
@@ -18,10 +17,8 @@ use Rattle.formula_names.specs.declared.Reach.{Reach}
 use Rattle.formula_names.specs.declared.Reach.TheVariants.{Sheets}
 use Rattle.formula_names.specs.Renamed.{naming, tree_renamed}
 use Rattle.formula_names.specs.laws.NamedLaws.{placed-named}
-use Rattle.cell_content.specs.declared.Content.{Content}
 use Rattle.cell_content.specs.Fitting.{fits_at}
-use Rattle.cell_content.specs.Lens.{tree_of, with_tree}
-use Rattle.cell_content.specs.laws.LensLaws.{tree_of-with_tree}
+use Rattle.cell_content.specs.laws.ChangedLaws.{changed_tree}
 use Rattle.format_rules.specs.Fitting.{StandsInside}
 use Rattle.base_maps.specs.TaggedIndexes.{index_on}
 use Rattle.sheet_grid.specs.Arrays.{array_at, arrays_of, where_large, large_array_at, large_arrays_of}
@@ -33,11 +30,12 @@ use Rattle.sheet_grid.specs.Sheet.{Sheet}
 use Rattle.sheet_rules.specs.Occupied.{are_apart, meets_any, have_arrays, is_merge, have_merges, covers, covers_blanks, are_hidden_blank}
 use Rattle.sheet_rules.specs.WellFormed.{stands_inside, have_trees, have_attributes, is_row, is_column, has_font}
 use Rattle.sheet_lines.specs.Sheets.{IsPlacedCell, IsPlacedSheet}
+use Rattle.sheet_lines.specs.laws.Stays.{places_stay}
 use Rattle.book_sheets.specs.laws.SheetRules.{KeepsSheetRules}
 use Rattle.book_names.specs.declared.kept_trees.KeptTrees.{KeptTrees}
-use Rattle.book_names.specs.Renaming.{ArePlacedTrees, content_renamed, cell_renamed, cells_renamed, sheet_renamed, kept_under, cell_back, cells_back, sheet_back}
+use Rattle.book_names.specs.Renaming.{ArePlacedTrees, cell_renamed, cells_renamed, sheet_renamed, kept_under, cell_back, cells_back, sheet_back}
 use Rattle.book_names.specs.Renaming.{formattings_renamed, formattings_under, formattings_back}
-use Rattle.book_names.specs.laws.Cells.{renamed_none, renamed_some, still_array, still_empty, content_fits}
+use Rattle.book_names.specs.laws.Cells.{still_array, still_empty, content_fits}
 use Rattle.book_names.specs.laws.Entries.{entries_changed, all_same, gives_same}
 use Rattle.book_names.specs.laws.Formattings.{all_parts_still, all_trees_still, rules_still, rules_back_still}
 
@@ -124,28 +122,15 @@ all_rules_stay id old new (sheet ∷ sheets) all = (rules_stay Sheets (if sheet.
 abbrev IsPlacedTree : Position → Node → Type 0
 IsPlacedTree place tree = is_placed place tree ≡ true
 
--- a tree that is put into a content, which may be one without a tree
-put_tree : (place : Position) (tree : Node) (o : Option Node) → is_placed place tree ≡ true → IfSome (option_map (λ _. tree) o) (IsPlacedTree place)
-put_tree place tree None h = tt
-put_tree place tree (Some own) h = h
-
-placed_with : (place : Position) (content : Content) (tree : Node) → is_placed place tree ≡ true → IfSome (tree_of (with_tree content tree)) (IsPlacedTree place)
-placed_with place content tree h = subst (λ o. IfSome o (IsPlacedTree place)) (sym (tree_of-with_tree content tree)) (put_tree place tree (tree_of content) h)
-
-placed_at : (reach : Reach) (old new : List ℕ) (place : Position) (content : Content) (o : Option Node) → tree_of content ≡ o → IfSome o (IsPlacedTree place) → IfSome (tree_of (content_renamed reach old new content)) (IsPlacedTree place)
-placed_at reach old new place content None is h = subst (λ c. IfSome (tree_of c) (IsPlacedTree place)) (sym (renamed_none reach old new content is)) (subst (λ o. IfSome o (IsPlacedTree place)) (sym is) tt)
-placed_at reach old new place content (Some tree) is h =
-    subst (λ c. IfSome (tree_of c) (IsPlacedTree place)) (sym (renamed_some reach old new content tree is))
-    (placed_with place content (tree_renamed reach old new tree) (placed-named (naming reach old new) place tree ∙ h))
-
 -- a renamed formula is placed as it was
 placed_renamed : (reach : Reach) (old new : List ℕ) (place : Position) (cell : Cell) → IsPlacedCell place cell → IsPlacedCell place (cell_renamed reach old new cell)
-placed_renamed reach old new place cell h = placed_at reach old new place cell.content (tree_of cell.content) refl h
+placed_renamed reach old new place cell h = changed_tree (tree_renamed reach old new) cell.content (IsPlacedTree place)
+    (λ tree is. placed-named (naming reach old new) place tree ∙ subst (λ o. IfSome o (IsPlacedTree place)) is h)
 
 -- so is one that comes back, where the kept tree is
 placed_back : (reach : Reach) (old new : List ℕ) (place : Position) (o : Option Node) (cell : Cell) → IfSome o (IsPlacedTree place) → IsPlacedCell place cell → IsPlacedCell place (cell_back reach old new o cell)
 placed_back reach old new place None cell kept h = placed_renamed reach new old place cell h
-placed_back reach old new place (Some tree) cell kept h = placed_with place cell.content tree kept
+placed_back reach old new place (Some tree) cell kept h = places_stay.restored place place cell tree h kept
 
 -- so does a sheet, under any name
 pub placed_sheet : (reach : Reach) (name old new : List ℕ) (sheet : Sheet) → IsPlacedSheet sheet → IsPlacedSheet (later reach name old new sheet)

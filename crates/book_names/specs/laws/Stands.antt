@@ -22,6 +22,7 @@ use Rattle.base_maps.specs.laws.SheetPlaces.{sheet_place_total, exact_sheet_plac
 use Rattle.formula_tree.specs.declared.Node.{Node}
 use Rattle.formula_names.specs.declared.Reach.{Reach}
 use Rattle.formula_names.specs.declared.Reach.TheVariants.{Sheets}
+use Rattle.formula_names.specs.Renamed.{tree_renamed}
 use Rattle.cell_content.specs.Fitting.{tree_fits_at}
 use Rattle.cell_content.specs.Lens.{tree_of}
 use Rattle.defined_names.specs.declared.DefinedName.{DefinedName}
@@ -43,9 +44,9 @@ use Rattle.book_sheets.specs.laws.SheetRules.{KeepsSheetRules, all_keep}
 use Rattle.book_names.specs.declared.kept_trees.KeptTrees.{KeptTrees}
 use Rattle.book_names.specs.Renaming.{cell_renamed, cells_renamed, defined_renamed, sheet_renamed, book_renamed, cell_kept, formulas_kept, everywhere, defined_kept, names_kept, trees_kept, book_back}
 use Rattle.book_names.specs.Renaming.{formattings_renamed, own_formattings_kept, formattings_kept}
-use Rattle.book_names.specs.RenameDiffs.{stand_on_places, stand_on_parts, is_formula, tree_stands, formulas_stand, names_stand, formatting_stands, formattings_stand}
-use Rattle.book_names.specs.RenameDiffs.{lie_in_sheets, goes_forward, goes_back, rename_forward, rename_back}
-use Rattle.book_names.specs.laws.Cells.{kept_is, formula_stays}
+use Rattle.book_names.specs.RenameDiffs.{stand_on_places, stand_on_parts, lie_in_sheets, is_formula, is_formula_at, own_place, tree_stands, formulas_stand}
+use Rattle.book_names.specs.RenameDiffs.{names_stand, formatting_stands, formattings_stand, goes_forward, goes_back, rename_forward, rename_back}
+use Rattle.book_names.specs.laws.Cells.{kept_is, still_formula}
 use Rattle.book_names.specs.laws.Entries.{all_entries, entry_holds, found_same, get_changed}
 use Rattle.book_names.specs.laws.Formattings.{same_count as same_rule_count, own_kept_passes, own_kept_within}
 use Rattle.book_names.specs.laws.Names.{name_parts_are}
@@ -76,6 +77,58 @@ module _ (old new : List ℕ) where
       ∙ all_entries nat_cmp nat_cmp_total exact_unsigned (λ (entry : ℕ × Node). nat_lt entry.0 (length names) && tree_fits_at first_place entry.1) (names_kept old new names)
       (λ q tree h i. kept_within (defined_kept old new) names q tree h i && kept_name_fits names fit q tree h i)
 
+-- ---- trees of cells
+
+-- the sheet of a key is there, and in it a formula where one is sought for its place
+pub record IsSought (seek : Sheet → Position → Option Position) (later : Book) (key : SheetPlace) : Type 0 where
+  pub sheet : Sheet
+  pub there : sheet_of later key.sheet ≡ Some sheet
+  pub formula : is_formula_at sheet.cells (seek sheet key.place) ≡ true
+
+module _ (book : Book) where
+  -- a tree under a key is that of a cell of a sheet
+  pub record IsOfCell (key : SheetPlace) (tree : Node) : Type 0 where
+    pub of : Sheet
+    pub cell : Cell
+    pub found : sheet_of book key.sheet ≡ Some of
+    pub stands : get of.cells key.place ≡ Some cell
+    pub is_it : tree_of cell.content ≡ Some tree
+
+  module _ (rules : IsWellFormed book) where
+    -- the sheet of an id keeps the rules that are of one sheet
+    pub sheet_rules : (n : ℕ) (s : Sheet) → sheet_of book n ≡ Some s → KeepsSheetRules s
+    sheet_rules n s found = found_holds (λ (t : Sheet). t.id == n) KeepsSheetRules book.worksheets (all_keep book rules) s found
+
+    -- such a tree fits its place
+    pub cell_tree_fits : (key : SheetPlace) (tree : Node) → IsOfCell key tree → tree_fits_at key.place tree ≡ true
+    cell_tree_fits key tree it =
+        let fits : CellsFit it.of = cells_fit_from_trees it.of (sheet_rules key.sheet it.of it.found).trees in
+        sym (ap (λ o. option_map_or (tree_fits_at key.place) o true) it.is_it) ∙ sym (ap (entry_fits_at key.place) it.stands) ∙ fits key.place
+
+    cells_inside : (s : Sheet) → stands_inside s ≡ true → list_all (λ (entry : Position × Cell). is_place entry.0) (entries s.cells) ≡ true
+    unfolding stands_inside
+    cells_inside s inside = (both _ _ (both _ _ (both _ _ inside).0).0).0
+
+    module _ (formulas : FinMap sheet_place_cmp Node) (of_cell : (key : SheetPlace) (tree : Node) → get formulas key ≡ Some tree → IsOfCell key tree) where
+      -- the places of such trees are places of their sheets
+      pub trees_on_places : stand_on_places formulas ≡ true
+      unfolding stand_on_places
+      trees_on_places =
+          all_entries sheet_place_cmp sheet_place_total exact_sheet_places (λ (entry : SheetPlace × Node). is_place entry.0.place) formulas (λ key tree h.
+          let it = of_cell key tree h in
+          entry_holds position_cmp position_total exact_positions (λ (entry : Position × Cell). is_place entry.0) it.of.cells
+          (cells_inside it.of (sheet_rules key.sheet it.of it.found).inside) key.place it.cell it.stands)
+
+      -- and they stand in a later workbook, where the formula of each is found
+      pub trees_stand : (seek : Sheet → Position → Option Position) (later : Book)
+          → ((key : SheetPlace) (tree : Node) → get formulas key ≡ Some tree → IsSought seek later key) → formulas_stand seek formulas later ≡ true
+      unfolding tree_stands formulas_stand
+      trees_stand seek later sought =
+          all_entries sheet_place_cmp sheet_place_total exact_sheet_places
+          (λ (entry : SheetPlace × Node). tree_stands seek (sheet_of later entry.0.sheet) entry.0.place entry.1) formulas (λ key tree h.
+          let it = sought key tree h in
+          ap (λ o. tree_stands seek o key.place tree) it.there ∙ (λ i. cell_tree_fits key tree (of_cell key tree h) i && it.formula i))
+
 -- ---- cells and conditional rules
 
 -- the sheet of an id in the later workbook
@@ -95,47 +148,26 @@ module _ (there back : ℕ → Reach) (old new : List ℕ) (book : Book) (rules 
   abbrev formulas : FinMap sheet_place_cmp Node
   formulas = formulas_kept there back old new book.worksheets
 
-  rules_of : (n : ℕ) (s : Sheet) → sheet_of book n ≡ Some s → KeepsSheetRules s
-  rules_of n s found = found_holds (λ (t : Sheet). t.id == n) KeepsSheetRules book.worksheets (all_keep book rules) s found
-
-  -- a kept tree is that of a cell of a sheet
-  pub record IsOfCell (key : SheetPlace) (tree : Node) : Type 0 where
-    pub of : Sheet
-    pub cell : Cell
-    pub found : sheet_of book key.sheet ≡ Some of
-    pub stands : get of.cells key.place ≡ Some cell
-    pub is_it : tree_of cell.content ≡ Some tree
-
   of_cell : (key : SheetPlace) (tree : Node) (o : Option Sheet) → sheet_of book key.sheet ≡ o
-      → if_there o (λ s. if_there (get s.cells key.place) (cell_kept (there s.id) (back s.id) old new)) ≡ Some tree → IsOfCell key tree
+      → if_there o (λ s. if_there (get s.cells key.place) (cell_kept (there s.id) (back s.id) old new)) ≡ Some tree → IsOfCell book key tree
   of_cell key tree None none h = absurd (cc)
   of_cell key tree (Some s) found h = go (get s.cells key.place) refl h
     where
-      go : (o : Option Cell) → get s.cells key.place ≡ o → if_there o (cell_kept (there s.id) (back s.id) old new) ≡ Some tree → IsOfCell key tree
+      go : (o : Option Cell) → get s.cells key.place ≡ o → if_there o (cell_kept (there s.id) (back s.id) old new) ≡ Some tree → IsOfCell book key tree
       go None none h = absurd (cc)
       go (Some cell) stands h = record { of = s; cell = cell; found = found; stands = stands; is_it = kept_is (there s.id) (back s.id) old new (tree_of cell.content) tree h }
 
-  kept_tree : (key : SheetPlace) (tree : Node) → get formulas key ≡ Some tree → IsOfCell key tree
+  -- a kept tree is that of a cell of a sheet
+  kept_tree : (key : SheetPlace) (tree : Node) → get formulas key ≡ Some tree → IsOfCell book key tree
   kept_tree key tree h =
       of_cell key tree (sheet_of book key.sheet) refl (sym (formulas_at there back old new book (distinct_ids_from_well_formed book rules) key.sheet key.place) ∙ h)
 
-  -- it fits its place
+  -- it fits its place, which is one of a sheet
   pub kept_tree_fits : (key : SheetPlace) (tree : Node) → get formulas key ≡ Some tree → tree_fits_at key.place tree ≡ true
-  kept_tree_fits key tree h =
-      let it = kept_tree key tree h in
-      let fits : CellsFit it.of = cells_fit_from_trees it.of (rules_of key.sheet it.of it.found).trees in
-      sym (ap (λ o. option_map_or (tree_fits_at key.place) o true) it.is_it) ∙ sym (ap (entry_fits_at key.place) it.stands) ∙ fits key.place
-
-  -- its place is one of a sheet
-  cells_inside : (s : Sheet) → stands_inside s ≡ true → list_all (λ (entry : Position × Cell). is_place entry.0) (entries s.cells) ≡ true
-  unfolding stands_inside
-  cells_inside s inside = (both _ _ (both _ _ (both _ _ inside).0).0).0
+  kept_tree_fits key tree h = cell_tree_fits book rules key tree (kept_tree key tree h)
 
   pub kept_on_places : stand_on_places formulas ≡ true
-  unfolding stand_on_places
-  kept_on_places = all_entries sheet_place_cmp sheet_place_total exact_sheet_places (λ (entry : SheetPlace × Node). is_place entry.0.place) formulas (λ key tree h.
-      let it = kept_tree key tree h in
-      entry_holds position_cmp position_total exact_positions (λ (entry : Position × Cell). is_place entry.0) it.of.cells (cells_inside it.of (rules_of key.sheet it.of it.found).inside) key.place it.cell it.stands)
+  kept_on_places = trees_on_places book rules formulas kept_tree
 
   -- ---- conditional rules
 
@@ -160,12 +192,14 @@ module _ (there back : ℕ → Reach) (old new : List ℕ) (book : Book) (rules 
   -- it has parts, which lie inside the sheet
   kept_has_parts : (key : SheetIndex) (formatting : ConditionalFormatting) → IsOfList key formatting → has_parts formatting ≡ true
   kept_has_parts key formatting it =
-      own_kept_passes (there it.of.id) (back it.of.id) old new has_parts it.of.formattings (rules_of key.sheet it.of it.found).rule_parts key.index formatting it.kept
+      own_kept_passes (there it.of.id) (back it.of.id) old new has_parts it.of.formattings
+      (sheet_rules book rules key.sheet it.of it.found).rule_parts key.index formatting it.kept
 
   -- and its formulas fit there
   kept_formatting_fits : (key : SheetIndex) (formatting : ConditionalFormatting) → IsOfList key formatting → has_fitting_trees formatting ≡ true
   kept_formatting_fits key formatting it =
-      own_kept_passes (there it.of.id) (back it.of.id) old new has_fitting_trees it.of.formattings (rules_of key.sheet it.of it.found).rule_trees key.index formatting it.kept
+      own_kept_passes (there it.of.id) (back it.of.id) old new has_fitting_trees it.of.formattings
+      (sheet_rules book rules key.sheet it.of it.found).rule_trees key.index formatting it.kept
 
   pub kept_rule_fits : (key : SheetIndex) (formatting : ConditionalFormatting) → get formattings key ≡ Some formatting → has_fitting_trees formatting ≡ true
   kept_rule_fits key formatting h = kept_formatting_fits key formatting (kept_formatting key formatting h)
@@ -177,22 +211,22 @@ module _ (there back : ℕ → Reach) (old new : List ℕ) (book : Book) (rules 
 
   -- and at its place there is a formula later, where each sheet has its cells renamed
   module _ (later : Book) (laters : (n : ℕ) (s : Sheet) → sheet_of book n ≡ Some s → HasLater old new later n s) where
-    formula_there : (key : SheetPlace) (tree : Node) (it : IsOfCell key tree) → is_formula (get (laters key.sheet it.of it.found).sheet.cells key.place) ≡ true
+    formula_there : (key : SheetPlace) (tree : Node) → IsOfCell book key tree → IsSought own_place later key
     formula_there key tree it =
         let last = laters key.sheet it.of it.found in
-        ap (λ cells. is_formula (get cells key.place)) last.cells
-        ∙ ap is_formula (get_changed position_cmp (λ _ cell. cell_renamed last.reach old new cell) position_total exact_positions it.of.cells key.place)
-        ∙ formula_stays last.reach old new (get it.of.cells key.place) ∙ ap is_formula it.stands ∙ ap is_some it.is_it
+        let renamed : Cell → Cell = cell_renamed last.reach old new in
+        record {
+          sheet = last.sheet;
+          there = last.there;
+          formula =
+              ap (λ cells. is_formula (get cells key.place)) last.cells
+              ∙ ap is_formula (get_changed position_cmp (λ _ cell. renamed cell) position_total exact_positions it.of.cells key.place
+              ∙ ap (λ o. if_there o (λ cell. Some (renamed cell))) it.stands)
+              ∙ still_formula (tree_renamed last.reach old new) it.cell.content tree it.is_it;
+        }
 
-    stands_later : (key : SheetPlace) (tree : Node) → IsOfCell key tree → tree_fits_at key.place tree ≡ true → tree_stands (sheet_of later key.sheet) key.place tree ≡ true
-    unfolding tree_stands
-    stands_later key tree it fits =
-        ap (λ o. tree_stands o key.place tree) (laters key.sheet it.of it.found).there ∙ (λ i. fits i && formula_there key tree it i)
-
-    pub kept_stand_later : formulas_stand formulas later ≡ true
-    unfolding formulas_stand
-    kept_stand_later = all_entries sheet_place_cmp sheet_place_total exact_sheet_places (λ (entry : SheetPlace × Node). tree_stands (sheet_of later entry.0.sheet) entry.0.place entry.1) formulas
-        (λ key tree h. stands_later key tree (kept_tree key tree h) (kept_tree_fits key tree h))
+    pub kept_stand_later : formulas_stand own_place formulas later ≡ true
+    kept_stand_later = trees_stand book rules formulas kept_tree own_place later (λ key tree h. formula_there key tree (kept_tree key tree h))
 
     -- and there is a conditional rule, where each has its list renamed
     rule_there : (key : SheetIndex) (formatting : ConditionalFormatting) (it : IsOfList key formatting)
@@ -239,7 +273,7 @@ module _ (id : ℕ) (new : List ℕ) (book : Book) (rules : IsWellFormed book) (
     formattings = refl;
   }
 
-  formulas_later : formulas_stand kept.formulas later ≡ true
+  formulas_later : formulas_stand own_place kept.formulas later ≡ true
   formulas_later = kept_stand_later everywhere everywhere old new book rules later laters
 
   formattings_later : formattings_stand kept.formattings later ≡ true

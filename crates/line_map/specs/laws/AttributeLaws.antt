@@ -1,30 +1,26 @@
 -- The law of followers for what lines have of their own.
-use Rattle.std.proofs.Common.{◌≡◌, ◌⊎◌, inl, inr, ℕ, zero, suc, ℤ, pos, negsuc, ◌+ℤ◌, ◌-ℤ◌, ◌≤ℤ◌, Bool, true, false, cond, Option, Some, None, refl}
-use Rattle.std.proofs.Common.{ap, sym, subst, ◌∙◌, arith}
-use Rattle.std.specs.Prelude.{IfSome, is_some, is_none, ◌&&◌, if◌then◌else◌}
-use Rattle.std.proofs.lemmas.Int.{ints}
-use Rattle.std.specs.Ordering.{int_cmp, eq_by_cmp}
+use Rattle.std.proofs.Common.{◌≡◌, ◌⊎◌, inl, inr, ℕ, suc, ℤ, pos, ◌+ℤ◌, ◌-ℤ◌, Bool, true, false, cond, Option, Some, None, refl}
+use Rattle.std.proofs.Common.{ap, sym, subst, ◌∙◌}
+use Rattle.std.specs.Prelude.{IfSome, is_some, ⊤, if◌then◌else◌}
+use Rattle.std.specs.Ordering.{int_cmp}
 use Rattle.std.specs.Cmp.{int_cmp_total}
-use Rattle.std.specs.FinMap.{FinMap, empty, get, get-empty, insert, get-insert, int_cmp-IsAntisymmetric}
+use Rattle.std.specs.FinMap.{FinMap, empty, get, int_cmp-IsAntisymmetric, same_map}
 use Rattle.base_values.specs.Places.{IsLine}
 use Rattle.base_axis.specs.Along.{Along, IsAxis, rows, columns}
 use Rattle.line_edits.specs.declared.Block.{Block}
-use Rattle.line_edits.specs.Edit.{amount}
-use Rattle.line_map.specs.Attributes.{line_goes_along, heir, with_line, filled, block_given, block_heirs, heirs, lines_carried, lines_part}
+use Rattle.line_map.specs.Attributes.{line_goes_along, line_goes, heir, with_line, filled, block_given, block_heirs, heirs, lines_brought, lines_carried}
 use Rattle.line_map.specs.Attributes.{lines_restored, LinesLie}
-use Rattle.base_maps.specs.Carried.{if_there, moved_map, lost_map, overlaid}
-use Rattle.line_edits.specs.Edit.{within, is_in_block}
-use Rattle.line_edits.specs.Moves.{is_brought}
-use Rattle.line_routes.specs.Way.{Way, IsWay, back, is_along}
-use Rattle.base_maps.specs.laws.Gathering.{get-lost_map, get-overlaid, nothing_overlaid, overlaid_more}
-use Rattle.base_maps.specs.laws.Keys.{one_key}
-use Rattle.base_maps.specs.laws.CarriedLaws.{get-moved_map, laid_over}
-use Rattle.base_maps.specs.laws.Inverses.{turned_inverse}
-
-pub both_of : (a b : Bool) → (a && b) ≡ true → (a ≡ true) × (b ≡ true)
-both_of true true h = (refl, refl)
-both_of true false h = absurd (cc)
-both_of false b h = absurd (cc)
+use Rattle.line_map.specs.laws.HeirLaws.{both_of, heirs_given}
+use Rattle.line_map.specs.Keys.{AreKeys, BringsBeside, KeysAre}
+use Rattle.line_map.specs.Maps.{entries_carried, entries_restored}
+use Rattle.line_map.specs.laws.MapLaws.{entries_return, entries_stay, lost_given}
+use Rattle.base_maps.specs.Carried.{Inverse, carried_map, moved_map, lost_map, overlaid}
+use Rattle.line_edits.specs.Edit.{within}
+use Rattle.line_routes.specs.Way.{Way, IsWay, is_along}
+use Rattle.base_maps.specs.laws.CarriedLaws.{get-moved_map}
+use Rattle.base_maps.specs.laws.Each.{each_found, each_from, each_overlaid}
+use Rattle.base_maps.specs.laws.Gathering.{get-overlaid, nothing_overlaid, overlaid_more}
+use Rattle.base_maps.specs.laws.Inverses.{own_inverse}
 
 -- lines that go along are those of the same axis
 pub same_last : (a b : Along) → IsAxis a → IsAxis b → is_along a b ≡ true → a.last ≡ b.last
@@ -39,71 +35,7 @@ same_last a b h i along = by_axes h.one_of i.one_of
     by_axes (inr p) (inl q) = crossed p q refl
     by_axes (inr p) (inr q) = ap (λ c. c.last) (p ∙ sym q)
 
--- lines of a block that are lines of the axis
-abbrev IsFilled : ℤ → ℤ → ℤ → ℤ → Type 0
-IsFilled last first count n = IsLine last n × (is_in_block first count n ≡ true)
-
-within_both : (last n k : ℤ) → within last n ≡ Some k → (k ≡ n) × IsLine last k
-unfolding within
-within_both last n k e = (grind (arith, ints), (grind (arith, ints), grind (arith, ints)))
-
-later : (first : ℤ) (i : ℕ) (n : ℤ) → is_in_block first (pos i) n ≡ true → is_in_block first (pos (suc i)) n ≡ true
-unfolding is_in_block
-later first i n h = grind (arith, ints)
-
-last_in : (first : ℤ) (i : ℕ) → is_in_block first (pos (suc i)) (first +ℤ pos i) ≡ true
-unfolding is_in_block
-last_in first i = grind (arith, ints)
-
-counted : (first count n : ℤ) → is_in_block first (pos (amount count)) n ≡ true → is_in_block first count n ≡ true
-unfolding is_in_block
-counted first (pos k) n h = h
-counted first (negsuc k) n h = absurd (grind (arith, ints))
-
--- lines that are brought in, and lie on the axis
-abbrev IsGiven : ℤ → Option Block → ℤ → Type 0
-IsGiven last o n = IsLine last n × (is_brought o n ≡ true)
-
 module _ {X : Type 0} where
-  -- each key of a map is such a line
-  abbrev KeysAre : (ℤ → Type 0) → FinMap int_cmp X → Type 0
-  KeysAre P m = (n : ℤ) (x : X) → get m n ≡ Some x → P n
-
-  nothing_held : (P : ℤ → Type 0) → KeysAre P empty
-  nothing_held P n x h = let none : None ≡ Some x = sym (get-empty int_cmp n) ∙ h in absurd (cc)
-
-  one_more : (P : ℤ → Type 0) (k : ℤ) (y : X) (m : FinMap int_cmp X) → P k → KeysAre P m → KeysAre P (insert m k y)
-  one_more P k y m here rest n x h = at_test (eq_by_cmp int_cmp n k) refl (sym (get-insert int_cmp_total m k y n) ∙ h)
-    where
-      at_test : (b : Bool) → eq_by_cmp int_cmp n k ≡ b → cond b (Some y) (get m n) ≡ Some x → P n
-      at_test true same g = subst P (sym (one_key int_cmp int_cmp_total int_cmp-IsAntisymmetric n k same)) here
-      at_test false apart g = rest n x g
-
-  filled_at : (last : ℤ) (x : X) (first : ℤ) (i : ℕ) (o : Option ℤ) → within last (first +ℤ pos i) ≡ o → (m : FinMap int_cmp X) →
-      KeysAre (IsFilled last first (pos i)) m → KeysAre (IsFilled last first (pos (suc i))) (with_line o x m)
-  filled_at last x first i None e m h = λ n y g. ((h n y g).0, later first i n (h n y g).1)
-  filled_at last x first i (Some k) e m h =
-      let at = within_both last (first +ℤ pos i) k e in
-      one_more (IsFilled last first (pos (suc i))) k x m (at.1, ap (is_in_block first (pos (suc i))) at.0 ∙ last_in first i)
-      (λ n y g. ((h n y g).0, later first i n (h n y g).1))
-
-  filled_lines : (last : ℤ) (x : X) (first : ℤ) (i : ℕ) → KeysAre (IsFilled last first (pos i)) (filled last x first i)
-  unfolding filled
-  filled_lines last x first zero = nothing_held (IsFilled last first (pos zero))
-  filled_lines last x first (suc i) = filled_at last x first i _ refl (filled last x first i) (filled_lines last x first i)
-
-  given_lines : (last : ℤ) (block : Block) (o : Option X) → KeysAre (IsGiven last (Some block)) (block_given last block o)
-  given_lines last block None = nothing_held (IsGiven last (Some block))
-  given_lines last block (Some x) = λ n y h.
-      let at = filled_lines last x block.first (amount block.count) n y h in
-      (at.0, counted block.first block.count n at.1)
-
-  heirs_given : (b : Along) (same : X → X → Bool) (o : Option Block) (m : FinMap int_cmp X) → KeysAre (IsGiven b.last o) (heirs b same o m)
-  heirs_given b same None m = nothing_held (IsGiven b.last None)
-  heirs_given b same (Some block) m = elim (b.of false true) as (λ t. KeysAre (IsGiven b.last (Some block))
-      (if t then block_heirs b.last same m block else empty))
-      [ true ↦ given_lines b.last block _ | false ↦ nothing_held (IsGiven b.last (Some block)) ]
-
   -- one more line that is filled
   pub filled_more : (last : ℤ) (x : X) (first : ℤ) (i : ℕ) (line : ℤ) (before after m : FinMap int_cmp X) →
       before ≡ overlaid (filled last x first i) m → after ≡ with_line (within last line) x before → line ≡ first +ℤ pos i →
@@ -138,102 +70,89 @@ module _ {X : Type 0} where
   none_brought b same (Some block) m output (inr h) = still output ∙ ap (λ t. overlaid (if t then block_heirs b.last same m block else empty) output) (sym h)
 
   overlaid_are : (P : ℤ → Type 0) (over m : FinMap int_cmp X) → KeysAre P over → KeysAre P m → KeysAre P (overlaid over m)
-  overlaid_are P over m h i n x g = at_key (get over n) refl (sym (get-overlaid int_cmp int_cmp_total int_cmp-IsAntisymmetric over m n) ∙ g)
-    where
-      at_key : (o : Option X) → get over n ≡ o → cond (is_some o) o (get m n) ≡ Some x → P n
-      at_key None e f = i n x f
-      at_key (Some y) e f = h n y e
+  overlaid_are P over m h i = each_found int_cmp (λ n _. P n) (overlaid over m) (each_overlaid int_cmp int_cmp_total int_cmp-IsAntisymmetric (λ n _. P n) over m
+      (each_from int_cmp (λ n _. P n) over h) (each_from int_cmp (λ n _. P n) m i))
 
-  module _ (w : Way) (is : IsWay w) where
-    moved_are : (m : FinMap int_cmp X) → KeysAre (IsLine w.along.last) (moved_map w.moves.to m)
-    moved_are m n x g =
-        at_key (w.moves.from n) refl (sym (get-moved_map int_cmp int_cmp_total int_cmp-IsAntisymmetric w.moves.to w.moves.from is.one_to_one.inverse m n) ∙ g)
-      where
-        at_key : (s : Option ℤ) → w.moves.from n ≡ s → if_there s (get m) ≡ Some x → IsLine w.along.last n
-        at_key None e f = absurd (cc)
-        at_key (Some p) e f =
-            let Q : Option ℤ → Type 0 = λ o. IfSome o (IsLine w.along.last) in
-            subst Q (is.one_to_one.inverse.forth p n e) (is.one_to_one.to_inside p)
+-- lines are keys that are carried along
+pub line_keys : (b : Along) → IsAxis b → AreKeys int_cmp (IsLine b.last) (line_goes b) (λ w _ _. w)
+line_keys b i = record {
+  total = int_cmp_total;
+  exact = int_cmp-IsAntisymmetric;
+  inverse = λ w is. elim (line_goes_along b w) as (λ t. Inverse (λ n. if t then w.moves.to n else Some n) (λ n. if t then w.moves.from n else Some n))
+      [ true ↦ is.one_to_one.inverse | false ↦ own_inverse ];
+  lands = λ w is p q fits. (elim (line_goes_along b w) as (λ t. line_goes_along b w ≡ t → (if t then w.moves.to p else Some p) ≡ Some q → IsLine b.last q) [
+    | true ↦ λ along there.
+        let Lands : Option ℤ → Type 0 = λ o. IfSome o (IsLine w.along.last) in
+        subst (λ last. IsLine last q) (same_last w.along b is.axis i (both_of w.is_edited (is_along w.along b) along).1) (subst Lands there
+        (is.one_to_one.to_inside p))
+    | false ↦ λ apart there. let same : p ≡ q = cc in subst (IsLine b.last) same fits
+  ]) refl;
+  is_way = λ w is p q. is;
+  turns = λ w p q. refl;
+}
 
-    lost_are : (P : ℤ → Type 0) (m : FinMap int_cmp X) → KeysAre P m → KeysAre P (lost_map w.moves.to m)
-    lost_are P m h n x g = at_test (is_none (w.moves.to n)) (sym (get-lost_map int_cmp int_cmp_total int_cmp-IsAntisymmetric w.moves.to m n) ∙ g)
-      where
-        at_test : (b : Bool) → cond b (get m n) None ≡ Some x → P n
-        at_test true f = h n x f
-        at_test false f = absurd (cc)
+-- what is brought in stands on lines of the axis that nothing came to
+pub lines_bring : {X : Type 0} (b : Along) → IsAxis b → (same : X → X → Bool) → BringsBeside (IsLine b.last) (line_goes b) (lines_brought b same)
+lines_bring {X} b i same = record {
+  beside = λ w is m carried p q. elim (line_goes_along b w) as (λ t. (if t then w.moves.to p else Some p) ≡ Some q →
+      get (if t then overlaid (heirs b same w.moves.inserted m) carried else carried) q ≡ get carried q) [
+        | true ↦ λ there. get-overlaid int_cmp int_cmp_total int_cmp-IsAntisymmetric (heirs b same w.moves.inserted m) carried q
+            ∙ ap (λ o. cond (is_some o) o (get carried q)) (not_given w is m p q there _ refl)
+        | false ↦ λ there. refl
+      ];
+  inside = λ w is m carried fit. elim (line_goes_along b w) as (λ t. KeysAre (IsLine b.last) (if t then overlaid
+      (heirs b same w.moves.inserted m) carried else carried)) [
+        | true ↦ overlaid_are (IsLine b.last) (heirs b same w.moves.inserted m) carried (λ n y h. (heirs_given b same w.moves.inserted m n y h).0) fit
+        | false ↦ fit
+      ];
+}
+  where
+    not_given : (w : Way) → IsWay w → (m : FinMap int_cmp X) (p q : ℤ) → w.moves.to p ≡ Some q → (o : Option X) → get (heirs b same w.moves.inserted m) q ≡ o →
+        get (heirs b same w.moves.inserted m) q ≡ None
+    not_given w is m p q there None e = e
+    not_given w is m p q there (Some y) e =
+        let nowhere : w.moves.from q ≡ None = is.one_to_one.fresh q (heirs_given b same w.moves.inserted m q y e).1 in
+        let from : w.moves.from q ≡ Some p = is.one_to_one.inverse.back p q there in
+        absurd (cc)
 
+module _ {X : Type 0} (w : Way) (is : IsWay w) (b : Along) where
+  -- where lines stay, so do their entries
+  lines_still : (m : FinMap int_cmp X) → carried_map Some Some (λ _ _ x. x) m ≡ m
+  lines_still m = same_map int_cmp_total int_cmp-IsAntisymmetric _ m
+      (λ n. get-moved_map int_cmp int_cmp_total int_cmp-IsAntisymmetric Some Some own_inverse m n)
+
+  -- what lines have that stays as it is goes with them
+  pub lines_are : (same : X → X → Bool) (m : FinMap int_cmp X) →
+      lines_brought b same w m (entries_carried (line_goes b) (λ w _ _. w) (λ _ x. x) w m) ≡ lines_carried b same w m
+  lines_are same m = elim (line_goes_along b w) as (λ t.
+      (if t then overlaid (heirs b same w.moves.inserted m) (carried_map (λ n. if t then w.moves.to n else Some n) (λ n. if t then w.moves.from n else Some n)
+      (λ _ _ x. x) m)
+      else carried_map (λ n. if t then w.moves.to n else Some n) (λ n. if t then w.moves.from n else Some n) (λ _ _ x. x) m)
+      ≡ (if t then overlaid (heirs b same w.moves.inserted m) (moved_map w.moves.to w.moves.from m) else m)) [ true ↦ refl | false ↦ lines_still m ]
+
+  -- and comes back with them
+  pub lines_back_are : (P : Type 0) (m lost : FinMap int_cmp X) →
+      overlaid (if line_goes_along b w then lost else empty) (entries_restored (line_goes b) (λ w _ _. w) {P = P} (λ _ x. x) (λ _ x _. x) w
+      (λ _. None) m) ≡ lines_restored b w m lost
+  lines_back_are P m lost = elim (line_goes_along b w) as (λ t.
+      overlaid (if t then lost else empty) (carried_map (λ n. if t then w.moves.from n else Some n) (λ n. if t then w.moves.to n else Some n) (λ _ _ x. x) m)
+      ≡ (if t then overlaid lost (moved_map w.moves.from w.moves.to m) else m)) [
+        | true ↦ refl
+        | false ↦ nothing_overlaid int_cmp int_cmp_total int_cmp-IsAntisymmetric (carried_map Some Some (λ _ _ x. x) m) ∙ lines_still m
+      ]
+
+  module _ (i : IsAxis b) (same : X → X → Bool) (m : FinMap int_cmp X) where
     -- what is carried along lies on the axis
-    pub lines_stay : (b : Along) → IsAxis b → (same : X → X → Bool) (m : FinMap int_cmp X) → LinesLie b m → LinesLie b (lines_carried b same w m)
-    lines_stay b i same m lie = elim (line_goes_along b w) as (λ t. line_goes_along b w ≡ t →
-        LinesLie b (if t then overlaid (heirs b same w.moves.inserted m) (moved_map w.moves.to m) else m)) [
-          | true ↦ λ along.
-              let last : w.along.last ≡ b.last = same_last w.along b is.axis i (both_of w.is_edited (is_along w.along b) along).1 in
-              overlaid_are (IsLine b.last) (heirs b same w.moves.inserted m) (moved_map w.moves.to m)
-              (λ n y h. (heirs_given b same w.moves.inserted m n y h).0)
-              (λ n y h. let Q : ℤ → Type 0 = λ l. IsLine l n in subst Q last (moved_are m n y h))
-          | false ↦ λ apart. lie
-        ] refl
-
-    -- so does what is kept
-    pub lines_kept_fit : (b : Along) (m : FinMap int_cmp X) → LinesLie b m → (k : FinMap int_cmp X) → lines_part b w m ≡ Some k → LinesLie b k
-    lines_kept_fit b m lie k h = at_test (line_goes_along b w) h
-      where
-        at_test : (t : Bool) → (if t then Some (lost_map w.moves.to m) else None) ≡ Some k → LinesLie b k
-        at_test true g = let same : lost_map w.moves.to m ≡ k = cc in subst (LinesLie b) same (lost_are (IsLine b.last) m lie)
-        at_test false g = absurd (cc)
-
-    -- where nothing is kept, nothing went along
-    pub lines_come_back : (b : Along) (same : X → X → Bool) (m : FinMap int_cmp X) → lines_part b w m ≡ None →
-        lines_carried b same (back w) (lines_carried b same w m) ≡ m
-    lines_come_back b same m h = at_test (line_goes_along b w) refl h
-      where
-        at_test : (t : Bool) → line_goes_along b w ≡ t → (if t then Some (lost_map w.moves.to m) else None) ≡ None →
-            lines_carried b same (back w) (lines_carried b same w m) ≡ m
-        at_test true e g = absurd (cc)
-        at_test false e g = λ i. if e i then overlaid (heirs b same (back w).moves.inserted
-            (if e i then overlaid (heirs b same w.moves.inserted m) (moved_map w.moves.to m) else m))
-            (moved_map w.moves.from (if e i then overlaid (heirs b same w.moves.inserted m) (moved_map w.moves.to m) else m)) else
-            (if e i then overlaid (heirs b same w.moves.inserted m) (moved_map w.moves.to m) else m)
-
-    -- a line that came from somewhere was not brought in
-    not_given : (b : Along) (same : X → X → Bool) (m : FinMap int_cmp X) (p q : ℤ) → w.moves.to p ≡ Some q → get (heirs b same w.moves.inserted m) q ≡ None
-    not_given b same m p q there = at_key (get (heirs b same w.moves.inserted m) q) refl
-      where
-        at_key : (o : Option X) → get (heirs b same w.moves.inserted m) q ≡ o → o ≡ None
-        at_key None e = refl
-        at_key (Some y) e =
-            let nowhere : w.moves.from q ≡ None = is.one_to_one.fresh q (heirs_given b same w.moves.inserted m q y e).1 in
-            let from : w.moves.from q ≡ Some p = is.one_to_one.inverse.back p q there in
-            absurd (cc)
-
-    abbrev gone : (b : Along) (same : X → X → Bool) → FinMap int_cmp X → FinMap int_cmp X
-    gone b same m = overlaid (heirs b same w.moves.inserted m) (moved_map w.moves.to m)
+    pub lines_stay : LinesLie b m → LinesLie b (lines_carried b same w m)
+    lines_stay lie = subst (LinesLie b) (lines_are same m) (entries_stay (line_keys b i) w is (λ _ x. x) (λ _ _. ⊤) (λ v way x h. tt) m
+        (record { places = lie; items = λ p q x held there. tt }) (lines_bring b i same)).places
 
     -- what goes back with what was kept is the map
-    lines_return : (b : Along) (same : X → X → Bool) (m : FinMap int_cmp X) → overlaid (lost_map w.moves.to m) (moved_map w.moves.from (gone b same m)) ≡ m
-    lines_return b same m = laid_over int_cmp int_cmp_total int_cmp-IsAntisymmetric w.moves.to m (moved_map w.moves.from (gone b same m)) (λ p.
-        get-moved_map int_cmp int_cmp_total int_cmp-IsAntisymmetric w.moves.from w.moves.to (turned_inverse is.one_to_one.inverse) (gone b same m) p
-        ∙ at_key p (w.moves.to p) refl)
-      where
-        at_key : (p : ℤ) (t : Option ℤ) → w.moves.to p ≡ t → if_there t (get (gone b same m)) ≡ cond (is_some t) (get m p) None
-        at_key p None e = refl
-        at_key p (Some q) e =
-            get-overlaid int_cmp int_cmp_total int_cmp-IsAntisymmetric (heirs b same w.moves.inserted m) (moved_map w.moves.to m) q
-            ∙ ap (λ o. cond (is_some o) o (get (moved_map w.moves.to m) q)) (not_given b same m p q e)
-            ∙ get-moved_map int_cmp int_cmp_total int_cmp-IsAntisymmetric w.moves.to w.moves.from is.one_to_one.inverse m q
-            ∙ ap (λ s. if_there s (get m)) (is.one_to_one.inverse.back p q e)
-
-    -- the law of followers for what lines have
-    pub lines_restore : (b : Along) (same : X → X → Bool) (m : FinMap int_cmp X) (k : FinMap int_cmp X) → lines_part b w m ≡ Some k →
-        lines_restored b w (lines_carried b same w m) k ≡ m
-    lines_restore b same m k h = at_test (line_goes_along b w) refl h
-      where
-        at_test : (t : Bool) → line_goes_along b w ≡ t → (if t then Some (lost_map w.moves.to m) else None) ≡ Some k →
-            lines_restored b w (lines_carried b same w m) k ≡ m
-        at_test true e g =
-            let kept : k ≡ lost_map w.moves.to m = cc in
-            (λ i. if e i then overlaid (kept i) (moved_map w.moves.from
-            (if e i then overlaid (heirs b same w.moves.inserted m) (moved_map w.moves.to m) else m)) else
-            (if e i then overlaid (heirs b same w.moves.inserted m) (moved_map w.moves.to m) else m))
-            ∙ lines_return b same m
-        at_test false e g = absurd (cc)
+    pub lines_restore : (given : FinMap int_cmp X) → (line_goes_along b w ≡ true → given ≡ lost_map w.moves.to m) →
+        lines_restored b w (lines_carried b same w m) given ≡ m
+    lines_restore given lost =
+        sym (lines_back_are ⊤ (lines_carried b same w m) given)
+        ∙ (λ j. overlaid (lost_given int_cmp (line_keys b i) w.moves.to (line_goes_along b w) given m lost j)
+        (entries_restored (line_goes b) (λ w _ _. w) {P = ⊤} (λ _ x. x) (λ _ x _. x) w (λ _. None) (sym (lines_are same m) j)))
+        ∙ entries_return (line_keys b i) w is {P = ⊤} (λ _ x. x) (λ _ _. None) (λ _ x _. x) (λ _ _. ⊤) (λ v way x lies h. refl) (λ v way x lies k h. refl)
+        (lines_bring b i same) m (λ p q x held there. tt) (λ _. None) (λ p q x there held. refl)

@@ -3,8 +3,9 @@ use Rattle.std.proofs.Common.{◌≡◌, List, [], ◌∷◌, Option, Some, None
 use Rattle.std.specs.Prelude.{IfSome}
 use Rattle.std.specs.List.{All, AllByRecursion}
 use Rattle.std.proofs.lemmas.List.Elements.{recursion_from_All, All-from_recursion}
-use Rattle.base_maps.specs.Carried.{settled}
+use Rattle.base_maps.specs.laws.Each.{holds_of}
 use Rattle.line_map.specs.Lists.{items_restored}
+use Rattle.line_map.specs.laws.AloneLaws.{settles}
 
 module _ {F : Type 0} (P Q : F → Type 0) (f : F → F) (h : (x : F) → P x → Q (f x)) where
   stay : (xs : List F) → AllByRecursion P xs → AllByRecursion Q (map f xs)
@@ -14,15 +15,11 @@ module _ {F : Type 0} (P Q : F → Type 0) (f : F → F) (h : (x : F) → P x �
   pub items_stay : (xs : List F) → All P xs → All Q (map f xs)
   items_stay xs all = All-from_recursion Q (map f xs) (stay xs (recursion_from_All P xs all))
 
-fits_at : {K : Type 0} (Fits : K → Type 0) (o : Option K) → ((k : K) → o ≡ Some k → Fits k) → IfSome o Fits
-fits_at Fits None h = tt
-fits_at Fits (Some k) h = h k refl
-
 module _ {F K : Type 0} (P : F → Type 0) where
   fit : (part : F → Option K) (Fits : K → Type 0) → ((x : F) → P x → (k : K) → part x ≡ Some k → Fits k) → (xs : List F) → AllByRecursion P xs →
       AllByRecursion (λ o. IfSome o Fits) (map part xs)
   fit part Fits h [] all = tt
-  fit part Fits h (x ∷ xs) all = (fits_at Fits (part x) (h x all.0), fit part Fits h xs all.1)
+  fit part Fits h (x ∷ xs) all = (holds_of Fits (part x) (h x all.0), fit part Fits h xs all.1)
 
   -- the parts of items fit
   pub parts_fit : (part : F → Option K) (Fits : K → Type 0) → ((x : F) → P x → (k : K) → part x ≡ Some k → Fits k) → (xs : List F) → All P xs →
@@ -33,14 +30,11 @@ module _ {F K : Type 0} (P : F → Type 0) where
 
   module _ (carry home : F → F) (restore : F → K → F) (part : F → Option K) (back : (x : F) → P x → part x ≡ None → home (carry x) ≡ x)
       (regained : (x : F) → P x → (k : K) → part x ≡ Some k → restore (carry x) k ≡ x) where
-    settles : (x : F) → P x → (o : Option K) → part x ≡ o → settled home restore o (carry x) ≡ x
-    settles x lies None h = back x lies h
-    settles x lies (Some k) h = regained x lies k h
-
     restored : (xs : List F) → AllByRecursion P xs → items_restored home restore (map carry xs) (map part xs) ≡ xs
     restored [] all = refl
     restored (x ∷ xs) all =
-        ap (λ y. y ∷ items_restored home restore (map carry xs) (map part xs)) (settles x all.0 (part x) refl)
+        ap (λ y. y ∷ items_restored home restore (map carry xs) (map part xs)) (settles home restore (carry x) x (part x) (part x) refl (back x all.0)
+        (regained x all.0))
         ∙ ap (λ ys. x ∷ ys) (restored xs all.1)
 
     -- items are restored from their parts

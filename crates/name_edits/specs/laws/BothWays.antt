@@ -1,9 +1,9 @@
 -- The diff of a changed name leads from a well-formed workbook to the later one, and back with what was kept.
-use Rattle.std.proofs.Common.{◌≡◌, ℕ, Bool, true, false, ◌&&◌, ◌||◌, List, length, map, Option, Some, None, Ok, Err, refl, ap, sym, ◌∙◌}
-use Rattle.std.specs.Prelude.{◌==◌, is_some, if◌then◌else◌, nat_lt, slice_get}
+use Rattle.std.proofs.Common.{◌≡◌, ℕ, Bool, true, false, ◌&&◌, ◌||◌, length, Option, Some, None, Ok, Err, refl, ap, sym, ◌∙◌}
+use Rattle.std.specs.Prelude.{◌==◌, is_some, if◌then◌else◌, nat_lt}
 use Rattle.std.specs.Cmp.{nat_cmp_total}
 use Rattle.std.specs.Ordering.{nat_cmp}
-use Rattle.std.specs.FinMap.{empty, entries, get, get-empty, len, len-empty}
+use Rattle.std.specs.FinMap.{empty, get, get-empty, len-empty}
 use Rattle.std.proofs.lemmas.Map.Lookups.{exact_unsigned}
 use Rattle.base_values.specs.declared.EditError.TheVariants.{DiffRefused}
 use Rattle.base_maps.specs.SheetPlaces.{sheet_place_cmp}
@@ -25,15 +25,16 @@ use Rattle.sheet_rules.specs.WellFormed.{IsWellFormed}
 use Rattle.sheet_rules.specs.laws.WellFormedLaws.{well_formed_parts, distinct_ids_from_well_formed}
 use Rattle.sheet_lines.specs.Sheets.{sheet_of}
 use Rattle.book_names.specs.declared.KeptTrees.{KeptTrees}
-use Rattle.book_names.specs.RenameDiffs.{stand_on_places, stand_on_parts, lie_in_sheets, formulas_stand, names_stand, formattings_stand, may_stand, tree_stands, formatting_stands}
-use Rattle.book_names.specs.laws.Entries.{all_entries}
+use Rattle.book_names.specs.RenameDiffs.{stand_on_places, stand_on_parts, lie_in_sheets, own_place, tree_stands, formulas_stand}
+use Rattle.book_names.specs.RenameDiffs.{names_stand, formatting_stands, formattings_stand, may_stand}
+use Rattle.book_names.specs.laws.Entries.{none_fails}
 use Rattle.book_names.specs.laws.Stands.{HasLater, kept_on_places, kept_on_parts, kept_stand_later, kept_rules_stand_later, kept_tree_fits, kept_rule_fits}
 use Rattle.book_laws.specs.Ways.{LeadsBothWays}
 use Rattle.book_laws.specs.laws.ListTests.{passes_at}
 use Rattle.name_edits.specs.LookUp.{reach_at}
 use Rattle.name_edits.specs.NameChanges.{name_made, name_unmade, names_changed, opposite, sheet_updated, trees_lost}
 use Rattle.name_edits.specs.NameDiffs.{is_change, comes_fitting, keeps_nothing, goes_forward, goes_back, name_forward, name_back}
-use Rattle.name_edits.specs.laws.Lists.{IsAt, change_at, names_regained, place_before, place_later, same_count}
+use Rattle.name_edits.specs.laws.Lists.{IsAt, change_at, names_regained, place_before, place_later}
 use Rattle.name_edits.specs.laws.Replaced.{names_laid, later_found, sheets_regained}
 
 -- ---- nothing that is kept
@@ -41,30 +42,26 @@ use Rattle.name_edits.specs.laws.Replaced.{names_laid, later_found, sheets_regai
 -- no tree of a cell stands anywhere, nor does one of a name
 none_on_places : stand_on_places empty ≡ true
 unfolding stand_on_places
-none_on_places = all_entries sheet_place_cmp sheet_place_total exact_sheet_places (λ (entry : SheetPlace × Node). is_place entry.0.place) empty
-    (λ key tree h. absurd (let never : ◌≡◌ {A = Option Node} None (Some tree) = sym (get-empty sheet_place_cmp key) ∙ h in cc))
+none_on_places = none_fails sheet_place_cmp sheet_place_total exact_sheet_places (λ (entry : SheetPlace × Node). is_place entry.0.place)
 
 -- and no conditional rule does
 none_on_parts : stand_on_parts empty ≡ true
 unfolding stand_on_parts
-none_on_parts = all_entries sheet_index_cmp sheet_index_total exact_sheet_indexes (λ (entry : SheetIndex × ConditionalFormatting). has_parts entry.1) empty
-    (λ key formatting h. absurd (let never : ◌≡◌ {A = Option ConditionalFormatting} None (Some formatting) = sym (get-empty sheet_index_cmp key) ∙ h in cc))
+none_on_parts = none_fails sheet_index_cmp sheet_index_total exact_sheet_indexes (λ (entry : SheetIndex × ConditionalFormatting). has_parts entry.1)
 
-none_stand : (book : Book) → formulas_stand empty book ≡ true
+none_stand : (book : Book) → formulas_stand own_place empty book ≡ true
 unfolding formulas_stand
-none_stand book = all_entries sheet_place_cmp sheet_place_total exact_sheet_places (λ (entry : SheetPlace × Node). tree_stands (sheet_of book entry.0.sheet) entry.0.place entry.1) empty
-    (λ key tree h. absurd (let never : ◌≡◌ {A = Option Node} None (Some tree) = sym (get-empty sheet_place_cmp key) ∙ h in cc))
+none_stand book = none_fails sheet_place_cmp sheet_place_total exact_sheet_places
+    (λ (entry : SheetPlace × Node). tree_stands own_place (sheet_of book entry.0.sheet) entry.0.place entry.1)
 
 no_names_stand : (count : ℕ) → names_stand empty count ≡ true
 unfolding names_stand
-no_names_stand count = all_entries nat_cmp nat_cmp_total exact_unsigned (λ (entry : ℕ × Node). nat_lt entry.0 count && tree_fits_at first_place entry.1) empty
-    (λ place tree h. absurd (let never : ◌≡◌ {A = Option Node} None (Some tree) = sym (get-empty nat_cmp place) ∙ h in cc))
+no_names_stand count = none_fails nat_cmp nat_cmp_total exact_unsigned (λ (entry : ℕ × Node). nat_lt entry.0 count && tree_fits_at first_place entry.1)
 
 no_rules_stand : (book : Book) → formattings_stand empty book ≡ true
 unfolding formattings_stand
-no_rules_stand book = all_entries sheet_index_cmp sheet_index_total exact_sheet_indexes
-    (λ (entry : SheetIndex × ConditionalFormatting). formatting_stands (sheet_of book entry.0.sheet) entry.0.index entry.1) empty
-    (λ key formatting h. absurd (let never : ◌≡◌ {A = Option ConditionalFormatting} None (Some formatting) = sym (get-empty sheet_index_cmp key) ∙ h in cc))
+no_rules_stand book = none_fails sheet_index_cmp sheet_index_total exact_sheet_indexes
+    (λ (entry : SheetIndex × ConditionalFormatting). formatting_stands (sheet_of book entry.0.sheet) entry.0.index entry.1)
 
 nothing_kept : keeps_nothing (record { formulas = empty; names = empty; formattings = empty }) ≡ true
 nothing_kept = λ i. (len-empty sheet_place_cmp Node i == 0) && (len-empty nat_cmp Node i == 0) && (len-empty sheet_index_cmp ConditionalFormatting i == 0)

@@ -1,6 +1,6 @@
 -- A well-formed workbook stays so where an edit changes its names; and the change of such an edit is one that can be made.
 use Rattle.std.proofs.Common.{◌≡◌, ℕ, zero, suc, Bool, true, false, not, ◌&&◌, ◌||◌, List, [], ◌∷◌, length, map, Option, Some, None, Result, Ok, Err, refl, ap, sym, subst, ◌∙◌, arith}
-use Rattle.std.specs.Prelude.{◌==◌, IfSome, is_some, nat_lt, if◌then◌else◌, slice_get}
+use Rattle.std.specs.Prelude.{◌==◌, IfSome, nat_lt, if◌then◌else◌, slice_get}
 use Rattle.std.specs.Cmp.{unsigned_Decides}
 use Rattle.std.specs.List.{list_all, list_any, remove}
 use Rattle.base_values.specs.declared.EditError.{EditError}
@@ -17,18 +17,17 @@ use Rattle.sheet_grid.specs.Book.{Book, sheet_at}
 use Rattle.sheet_rules.specs.Distinct.{are_distinct}
 use Rattle.sheet_rules.specs.Names.{first_place, has_living_scope, is_id_of, are_names}
 use Rattle.sheet_rules.specs.SheetNames.{is_sheet_name}
-use Rattle.sheet_rules.specs.WellFormed.{are_sheets, ids_of, names_of, IsWellFormed}
+use Rattle.sheet_rules.specs.WellFormed.{are_sheets, ids_of, IsWellFormed}
 use Rattle.sheet_rules.specs.laws.EntryLaws.{both}
 use Rattle.sheet_rules.specs.laws.WellFormedLaws.{well_formed_parts}
 use Rattle.book_sheets.specs.laws.SheetRules.{all_keep, well_formed_by}
 use Rattle.name_edits.specs.declared.name_change.NameChange.{NameChange}
-use Rattle.name_edits.specs.LookUp.{is_named, place_of}
+use Rattle.name_edits.specs.LookUp.{is_named}
 use Rattle.name_edits.specs.NameChanges.{name_gone, name_made, names_changed, sheet_updated}
-use Rattle.name_edits.specs.NameDiffs.{comes_fitting, is_change}
 use Rattle.name_edits.specs.NameEdits.{NameEdit, scope_id, free_name, known_place, name_at, is_name_formula, with_formula}
 use Rattle.name_edits.specs.NameEdits.{name_goes, update_goes, valid_name, name_added, name_removed, name_updated, name_change}
 use Rattle.name_edits.specs.NameEdits.NameEdit.{Add, Remove, Update}
-use Rattle.name_edits.specs.laws.Lists.{IsAt, MayCome, change_at, names_stay, trees_stay}
+use Rattle.name_edits.specs.laws.Lists.{MayCome, change_at, names_stay, trees_stay}
 use Rattle.name_edits.specs.laws.Replaced.{all_rules_stay, same_ids, same_names}
 use Rattle.name_edits.specs.laws.BothWays.{IsMade}
 

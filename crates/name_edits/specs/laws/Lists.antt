@@ -1,6 +1,6 @@
 -- Lists of defined names after a change: the change is taken back, and the names keep their rules.
-use Rattle.std.proofs.Common.{◌≡◌, ℕ, ◌+◌, ◌≤◌, ◌<◌, Bool, true, false, not, cond, ◌&&◌, List, [], ◌∷◌, length, suc, Option, Some, None, refl, ap, sym, subst, ◌∙◌, arith}
-use Rattle.std.specs.Prelude.{IfSome, nat_eq, nat_le, nat_lt, slice_get}
+use Rattle.std.proofs.Common.{◌≡◌, ℕ, ◌≤◌, ◌<◌, Bool, true, false, cond, ◌&&◌, List, length, Option, Some, None, refl, ap, sym, subst, ◌∙◌, arith}
+use Rattle.std.specs.Prelude.{IfSome, nat_eq, nat_lt, slice_get}
 use Rattle.std.specs.Cmp.{unsigned_Decides}
 use Rattle.std.specs.List.{AllByRecursion, insert, list_all, list_any, position, position_or_len, remove}
 use Rattle.std.specs.Option.{option_eq}
@@ -18,7 +18,7 @@ use Rattle.defined_names.specs.Names.{IsCanonicalName, AreCanonicalNames, is_sam
 use Rattle.sheet_rules.specs.Distinct.{are_distinct}
 use Rattle.sheet_rules.specs.Names.{first_place, has_living_scope, have_name_trees, are_names}
 use Rattle.book_sheets.specs.laws.Placed.{all_inserted, all_removed}
-use Rattle.book_laws.specs.laws.LaterNames.{AreNamed, named_parts}
+use Rattle.book_laws.specs.laws.LaterNames.{named_parts}
 use Rattle.book_laws.specs.laws.ListEdits.{remove_inserted, insert_removed, got_within, length_inserted, length_removed}
 use Rattle.book_laws.specs.laws.ListTests.{all_with, all_without, distinct_with, distinct_without}
 use Rattle.name_edits.specs.declared.name_change.NameChange.{NameChange}

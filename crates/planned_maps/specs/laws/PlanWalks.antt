@@ -31,7 +31,7 @@ lines_put make first (suc more) = put_one make (lines_put make first more) (firs
 
 -- what is made of the lines of a map
 abbrev pub kept_put : {X V : Type 0} → (ℤ → Option X) → FinMap int_cmp V → FinMap int_cmp X
-kept_put make lines = gathered Some (λ _ line attr. make line) lines
+kept_put make lines = gathered Some Some (λ _ line attr. make line) lines
 
 module _ {X : Type 0} (make : Position → Option X) where
   -- a plan with what is made of the first so many places of a line

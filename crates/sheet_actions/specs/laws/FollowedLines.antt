@@ -61,7 +61,7 @@ module _ {X : Type 0} (P : X → Bool) where
       at_key None here = rest n
       at_key (Some x) here = here
 
-  moved_passes : (w : Way) → IsWay w → (m : FinMap int_cmp X) → Passes m → Passes (moved_map w.moves.to m)
+  moved_passes : (w : Way) → IsWay w → (m : FinMap int_cmp X) → Passes m → Passes (moved_map w.moves.to w.moves.from m)
   moved_passes w is m all n = ap passes (get-moved_map int_cmp int_cmp_total int_cmp-IsAntisymmetric w.moves.to w.moves.from is.one_to_one.inverse m n) ∙ at_key (w.moves.from n)
     where
       at_key : (s : Option ℤ) → passes (if_there s (get m)) ≡ true
@@ -70,8 +70,8 @@ module _ {X : Type 0} (P : X → Bool) where
 
   carried_passes : (w : Way) → IsWay w → (b : Along) (same : X → X → Bool) (m : FinMap int_cmp X) → Passes m → Passes (lines_carried b same w m)
   carried_passes w is b same m all =
-      elim (line_goes_along b w) as (λ t. Passes (if t then overlaid (heirs b same w.moves.inserted m) (moved_map w.moves.to m) else m)) [
-        | true ↦ overlaid_passes (heirs b same w.moves.inserted m) (moved_map w.moves.to m) (heirs_pass b same w.moves.inserted m all) (moved_passes w is m all)
+      elim (line_goes_along b w) as (λ t. Passes (if t then overlaid (heirs b same w.moves.inserted m) (moved_map w.moves.to w.moves.from m) else m)) [
+        | true ↦ overlaid_passes (heirs b same w.moves.inserted m) (moved_map w.moves.to w.moves.from m) (heirs_pass b same w.moves.inserted m all) (moved_passes w is m all)
         | false ↦ all
       ]
 

@@ -1,18 +1,13 @@
--- A kept tree fits its place, and where that goes there is a formula.
+-- Where the place of a kept tree goes there is a formula.
 use Rattle.std.proofs.Common.{◌≡◌, true, Option, Some, None, ap, sym, ◌∙◌}
-use Rattle.std.specs.Prelude.{IsTrue, is_some}
-use Rattle.std.specs.Option.{option_map, option_map_or}
 use Rattle.std.specs.FinMap.{FinMap, get}
 use Rattle.base_values.specs.declared.Position.{Position}
 use Rattle.base_values.specs.Places.{position_cmp}
 use Rattle.base_values.specs.laws.Places.{position_total, exact_positions}
 use Rattle.formula_tree.specs.declared.Node.{Node}
-use Rattle.cell_content.specs.declared.Content.{Content}
-use Rattle.cell_content.specs.Fitting.{tree_fits_at}
 use Rattle.cell_content.specs.Lens.{tree_of}
-use Rattle.cell_content.specs.laws.LensLaws.{tree_of-with_tree}
 use Rattle.base_maps.specs.Carried.{if_there}
-use Rattle.line_map.specs.Contents.{with_new_tree, content_carried, cell_carried, cell_part}
+use Rattle.line_map.specs.Contents.{cell_carried, cell_part}
 use Rattle.line_map.specs.Maps.{places_carried}
 use Rattle.line_routes.specs.Trees.{tree_carried, tree_part}
 use Rattle.line_routes.specs.Way.{Way, IsWay, at, back, place_goes}
@@ -20,15 +15,8 @@ use Rattle.base_maps.specs.laws.CarriedLaws.{get-carried_map}
 use Rattle.line_routes.specs.laws.TreeLaws.{tree_restores}
 use Rattle.line_routes.specs.laws.WayLaws.{goes_inverse}
 use Rattle.sheet_grid.specs.declared.Cell.{Cell}
-use Rattle.sheet_grid.specs.laws.FittingCells.{entry_fits_at}
-use Rattle.sheet_history.specs.LineDiffs.{is_formula, is_formula_at}
-
--- a content stays a formula when its tree is carried along
-still_formula : (w : Way) (content : Content) (tree : Node) → tree_of content ≡ Some tree → is_some (tree_of (content_carried w content)) ≡ true
-still_formula w content tree is =
-    ap (λ o. is_some (tree_of (with_new_tree content (if_there o (λ t. Some (tree_carried w t)))))) is
-    ∙ ap is_some (tree_of-with_tree content (tree_carried w tree))
-    ∙ ap (λ o. is_some (option_map (λ (_ : Node). tree_carried w tree) o)) is
+use Rattle.book_names.specs.RenameDiffs.{is_formula, is_formula_at}
+use Rattle.book_names.specs.laws.Cells.{still_formula}
 
 -- what is kept of a tree is the tree
 part_is : (w : Way) (o : Option Node) (tree : Node) → if_there o (tree_part w) ≡ Some tree → o ≡ Some tree
@@ -49,11 +37,7 @@ module _ (w : Way) (cells : FinMap position_cmp Cell) (p : Position) (tree : Nod
   tree_there (Some cell) None stands goes h = absurd (cc)
   tree_there (Some cell) (Some q) stands goes h = record { to = q; cell = cell; goes = goes; stands = stands; is_it = part_is (at w p q) (tree_of cell.content) tree h }
 
-  -- it fits its place, as its cell did
-  pub kept_fits : IsTreeThere → IsTrue (entry_fits_at p (get cells p)) → tree_fits_at p tree ≡ true
-  kept_fits it fits = sym (ap (λ o. option_map_or (tree_fits_at p) o true) it.is_it) ∙ sym (ap (entry_fits_at p) it.stands) ∙ fits
-
-  -- and where its place goes there is a formula
+  -- where its place goes there is a formula
   pub formula_there : IsWay w → IsTreeThere → is_formula_at (places_carried cell_carried w cells) (place_goes w p) ≡ true
   formula_there is it =
       let found : get (places_carried cell_carried w cells) it.to ≡ Some (cell_carried (at w p it.to) it.cell) =
@@ -62,4 +46,4 @@ module _ (w : Way) (cells : FinMap position_cmp Cell) (p : Position) (tree : Nod
       ∙ ap (λ o. if_there o (λ x. Some (cell_carried (at w p it.to) x))) it.stands in
       ap (is_formula_at (places_carried cell_carried w cells)) it.goes
       ∙ ap is_formula found
-      ∙ still_formula (at w p it.to) it.cell.content tree it.is_it
+      ∙ still_formula (tree_carried (at w p it.to)) it.cell.content tree it.is_it

@@ -18,13 +18,11 @@ use Rattle.base_axis.specs.contracts.merge_list.MergeListPartialEq.TheImpl as eq
 use Rattle.base_axis.specs.Rectangles.{is_inside}
 use Rattle.base_axis.specs.Along.{Along, IsAxis, rows, columns}
 use Rattle.base_maps.specs.declared.SheetPlace.{SheetPlace}
-use Rattle.base_maps.specs.SheetPlaces.{sheet_place_cmp}
 use Rattle.base_maps.specs.laws.Found.{found_passes}
-use Rattle.base_maps.specs.laws.SheetPlaces.{sheet_place_total, exact_sheet_places}
 use Rattle.formula_tree.specs.declared.Node.{Node}
 use Rattle.formula_tree.specs.Depth.{is_within}
 use Rattle.cell_content.specs.declared.Content.TheVariants.{Formula}
-use Rattle.cell_content.specs.Fitting.{fits_at, tree_fits_at}
+use Rattle.cell_content.specs.Fitting.{fits_at}
 use Rattle.cell_content.specs.laws.FittingLaws.{shallow_where_fits}
 use Rattle.format_rules.specs.declared.ConditionalFormatting.{ConditionalFormatting}
 use Rattle.format_rules.specs.Fitting.{has_parts}
@@ -64,15 +62,18 @@ use Rattle.sheet_lines.specs.Back.{book_back}
 use Rattle.sheet_lines.specs.laws.Regained.{book_regained, formulas_at}
 use Rattle.sheet_lines.specs.laws.Stays.{way_is}
 use Rattle.sheet_history.specs.laws.Depth.{AreShallowLines, is_shallow_rule}
-use Rattle.sheet_history.specs.LineDiffs.{is_pushed_past, stays_inside, is_there_inside, is_lost_place, is_lost_line, all_keys, stand_on_lost, merges_inside, parts_inside, lie_inside, tree_stands, formulas_stand, each_stands, formattings_stand, goes_on, goes_forward, goes_back, lines_forward, lines_back}
+use Rattle.sheet_history.specs.LineDiffs.{is_pushed_past, stays_inside, is_there_inside, is_lost_place, is_lost_line, all_keys, stand_on_lost}
+use Rattle.sheet_history.specs.LineDiffs.{merges_inside, parts_inside, lie_inside, each_stands, formattings_stand, goes_on}
+use Rattle.sheet_history.specs.LineDiffs.{goes_forward, goes_back, lines_forward, lines_back}
 use Rattle.book_sheets.specs.SheetDiffs.{lies_inside, cells_fit}
-use Rattle.book_names.specs.RenameDiffs.{stand_on_places}
+use Rattle.book_names.specs.RenameDiffs.{formulas_stand}
 use Rattle.book_names.specs.laws.Entries.{found_same}
+use Rattle.book_names.specs.laws.Stands.{IsOfCell, IsSought, cell_tree_fits, trees_on_places, trees_stand}
 use Rattle.sheet_history.specs.laws.Entries.{all_entries, entry_holds}
 use Rattle.sheet_history.specs.laws.RuleLaws.{KeepsSheetRules, sheet_rules}
 use Rattle.sheet_history.specs.laws.SoundEntries.{array_inside, sheet_merges_inside}
 use Rattle.sheet_history.specs.laws.StandingRules.{all_shallow, have_parts, passing_rules, sheet_rules_stand}
-use Rattle.sheet_history.specs.laws.KeptTrees.{IsTreeThere, tree_there, kept_fits, formula_there}
+use Rattle.sheet_history.specs.laws.KeptTrees.{IsTreeThere, tree_there, formula_there}
 
 module _ {K X : Type 0} (R : K → K → Ordering) (total : IsTotalOrder R) (exact : CmpEqualImpliesEq R) (to : K → Option K) (m : FinMap R X) where
   -- a lost entry is one of the map, and its key goes nowhere
@@ -234,31 +235,25 @@ module _ (a : Along) (l : IsAxis a) (e : EditKind) (valid : IsValid a.last e) (i
     kept_tree key tree h = of_sheet_at key tree (sheet_of book key.sheet) refl
         (sym (formulas_at a (edit_moves a.last e) id (name_of (sheet_of book id)) book (distinct_ids_from_well_formed book rules) key.sheet key.place) ∙ h)
 
-    -- so it fits its place
-    kept_tree_fits : (key : SheetPlace) (tree : Node) → get kept.formulas key ≡ Some tree → tree_fits_at key.place tree ≡ true
-    kept_tree_fits key tree h = let of = kept_tree key tree h in kept_fits (way_in of.sheet) of.sheet.cells key.place tree of.it (sheet_fits key.sheet of.sheet of.found key.place)
-
-    trees_inside : stand_on_places kept.formulas ≡ true
-    unfolding stand_on_places
-    trees_inside = all_entries sheet_place_cmp sheet_place_total exact_sheet_places (λ (entry : SheetPlace × Node). is_place entry.0.place) kept.formulas (λ key tree h.
+    of_cell : (key : SheetPlace) (tree : Node) → get kept.formulas key ≡ Some tree → IsOfCell book key tree
+    of_cell key tree h =
         let of = kept_tree key tree h in
-        entry_holds position_cmp position_total exact_positions (λ (entry : Position × Cell). is_place entry.0) of.sheet.cells (sheet_inside key.sheet of.sheet of.found).cells key.place of.it.cell of.it.stands)
+        record { of = of.sheet; cell = of.it.cell; found = of.found; stands = of.it.stands; is_it = of.it.is_it }
 
     later_found : (n : ℕ) (s : Sheet) → sheet_of book n ≡ Some s → sheet_of later n ≡ Some (sheet_followed (way_in s) s)
     later_found n s h = followed_found (name_of (sheet_of book id)) n book.worksheets s h
 
-    tree_stands_later : (key : SheetPlace) (tree : Node) → IsOfSheet key tree → tree_fits_at key.place tree ≡ true → tree_stands a e id (sheet_of later key.sheet) key.place tree ≡ true
-    unfolding tree_stands goes_on place_goes
-    tree_stands_later key tree of fits =
-        ap (λ o. tree_stands a e id o key.place tree) (later_found key.sheet of.sheet of.found)
-        ∙ (λ i. fits i && formula_there (way_in of.sheet) of.sheet.cells key.place tree (way_is a l e valid id (name_of (sheet_of book id)) of.sheet) of.it i)
+    tree_goes : (key : SheetPlace) (tree : Node) → IsOfSheet key tree → IsSought (goes_on a e id) later key
+    unfolding goes_on place_goes
+    tree_goes key tree of = record {
+      sheet = sheet_followed (way_in of.sheet) of.sheet;
+      there = later_found key.sheet of.sheet of.found;
+      formula = formula_there (way_in of.sheet) of.sheet.cells key.place tree (way_is a l e valid id (name_of (sheet_of book id)) of.sheet) of.it;
+    }
 
     -- each kept formula stands in the later workbook
-    kept_formulas_stand : formulas_stand a e id kept.formulas later ≡ true
-    unfolding formulas_stand
-    kept_formulas_stand = all_entries sheet_place_cmp sheet_place_total exact_sheet_places
-        (λ (entry : SheetPlace × Node). tree_stands a e id (sheet_of later entry.0.sheet) entry.0.place entry.1) kept.formulas
-        (λ key tree h. tree_stands_later key tree (kept_tree key tree h) (kept_tree_fits key tree h))
+    kept_formulas_stand : formulas_stand (goes_on a e id) kept.formulas later ≡ true
+    kept_formulas_stand = trees_stand book rules kept.formulas of_cell (goes_on a e id) later (λ key tree h. tree_goes key tree (kept_tree key tree h))
 
     -- what is kept of a well-formed workbook is at most 64 deep
     pub kept_shallow : AreShallowLines kept
@@ -280,7 +275,7 @@ module _ (a : Along) (l : IsAxis a) (e : EditKind) (valid : IsValid a.last e) (i
 
         tree_shallow : (key : SheetPlace) (o : Option Node) → get kept.formulas key ≡ o → IfSome o (λ tree. IsTrue (is_within 64 tree))
         tree_shallow key None is = tt
-        tree_shallow key (Some tree) is = shallow_where_fits key.place (Formula tree) (kept_tree_fits key tree is)
+        tree_shallow key (Some tree) is = shallow_where_fits key.place (Formula tree) (cell_tree_fits book rules key tree (of_cell key tree is))
 
         rule_shallow : (index : ℕ) (o : Option Sheet) → sheet_of book id ≡ o →
             IfSome (get (formattings_kept a (edit_moves a.last e) id (name_of (sheet_of book id)) o) index) (λ formatting. IsTrue (is_shallow_rule formatting))
@@ -299,7 +294,7 @@ module _ (a : Along) (l : IsAxis a) (e : EditKind) (valid : IsValid a.last e) (i
           && (ap (λ o. all_keys (is_lost_place a e) (of_sheet (λ (s : Sheet). lost_map to s.links) o)) found ∙ lost_keys position_cmp position_total exact_positions to sheet.links is_place inside.links) i)
           && ((ap (λ o. all_keys (is_lost_line a e) (of_sheet (λ (s : Sheet). lost_map (image_at a.last e) (lines_of a s)) o)) found
           ∙ lost_keys int_cmp int_cmp_total exact_signed (image_at a.last e) (lines_of a sheet) (is_line a.last) (lines_inside a l sheet inside)) i
-          && trees_inside i)
+          && trees_on_places book rules kept.formulas of_cell i)
 
       -- kept arrays and merges lie inside
       kept_lie_inside : lie_inside kept ≡ true

@@ -25,6 +25,7 @@ use Rattle.sheet_rules.specs.WellFormed.{are_distinct, ids_of, names_of, are_she
 use Rattle.sheet_rules.specs.laws.WellFormedLaws.{well_formed_parts, well_formed_from_parts, cells_fit_from_trees, have_trees_from_cells_fit}
 use Rattle.sheet_lines.specs.Sheets.{sheet_of}
 pub use Rattle.book_sheets.specs.laws.SheetRules.{KeepsSheetRules}
+pub use Rattle.book_names.specs.laws.Stands.{sheet_rules}
 use Rattle.sheet_history.specs.Entries.{EntryKey, EntryValue, cell_stands_at, value_fits, setting_of, sheet_id_of, with_sheet_entry, with_changed, entry_placed, bare_sheet, put_entry}
 use Rattle.sheet_history.specs.Entries.EntryKey.{CellKey, LinkKey, FieldKey}
 use Rattle.sheet_history.specs.Entries.EntryValue.{CellValue, LinkValue, FieldValue}
@@ -39,19 +40,7 @@ use Rattle.sheet_history.specs.laws.EntryLaws.{decide, by_id, map-changed, bare-
 -- ---- one sheet of a workbook
 
 module _ (P : Sheet → Bool) (id : ℕ) where
-  -- what holds of all sheets holds of the one of an id
-  pub all-found : (ss : List Sheet) (s : Sheet) → by_id id ss ≡ Some s → list_all P ss ≡ true → P s ≡ true
-  all-found [] s found all = absurd (cc)
-  all-found (t ∷ ss) s found all =
-      let parts = both (P t) (list_all P ss) all in
-      decide (t.id == id)
-      (λ hit.
-      let is : ◌≡◌ {A = Option Sheet} (Some t) (Some s) = (λ i. cond (sym hit i) (Some t) (by_id id ss)) ∙ found in
-      let same : t ≡ s = cc in
-      ap P (sym same) ∙ parts.0)
-      (λ miss. all-found ss s ((λ i. cond (sym miss i) (Some t) (by_id id ss)) ∙ found) parts.1)
-
-  -- it holds of all where the one of an id is changed, if it holds of that then
+  -- what holds of all sheets holds of all where the one of an id is changed, if it holds of that then
   pub all-changed : (f : Sheet → Sheet) (ss : List Sheet) → ((s : Sheet) → by_id id ss ≡ Some s → P (f s) ≡ true) → list_all P ss ≡ true → list_all P (with_changed id f ss) ≡ true
   all-changed f [] keeps all = refl
   all-changed f (s ∷ ss) keeps all =
@@ -67,22 +56,6 @@ length-changed f id (s ∷ ss) =
     decide (s.id == id)
     (λ hit. λ i. length (cond (hit i) (f s ∷ ss) (s ∷ with_changed id f ss)))
     (λ miss. (λ i. length (cond (miss i) (f s ∷ ss) (s ∷ with_changed id f ss))) ∙ ap suc (length-changed f id ss))
-
--- the sheet of an id of a well-formed workbook keeps the rules that are of one sheet
-pub sheet_rules : (w : Book) → IsWellFormed w → (id : ℕ) (s : Sheet) → sheet_of w id ≡ Some s → KeepsSheetRules s
-sheet_rules w rules id s found =
-    let parts = well_formed_parts w rules in
-    record {
-      inside = all-found stands_inside id w.worksheets s found parts.inside;
-      arrays = all-found have_arrays id w.worksheets s found parts.arrays;
-      merges = all-found have_merges id w.worksheets s found parts.merges;
-      hidden = all-found are_hidden_blank id w.worksheets s found parts.hidden;
-      trees = all-found have_trees id w.worksheets s found parts.trees;
-      rule_trees = all-found have_rule_trees id w.worksheets s found parts.rule_trees;
-      attributes = all-found have_attributes id w.worksheets s found parts.attributes;
-      frozen = all-found are_frozen id w.worksheets s found parts.frozen;
-      rule_parts = all-found have_rule_parts id w.worksheets s found parts.rule_parts;
-    }
 
 -- ids and names decide whether the sheets keep their rule
 same_sheets : (xs ys : List Sheet) → length xs ≡ length ys → ids_of xs ≡ ids_of ys → names_of xs ≡ names_of ys → are_sheets xs ≡ are_sheets ys

@@ -2,24 +2,23 @@
 use Rattle.std.proofs.Common.{◌≡◌, ◌⊎◌, inl, inr, ℕ, Bool, true, false, List, [], ◌∷◌, map, Option, Some, None, refl, ap, sym, ◌∙◌}
 use Rattle.std.specs.Prelude.{⊤, ◌==◌, if◌then◌else◌}
 use Rattle.std.specs.List.{filter_map}
-use Rattle.std.specs.Ordering.{int_cmp, nat_cmp}
+use Rattle.std.specs.Ordering.{nat_cmp}
 use Rattle.std.specs.Cmp.{unsigned_Decides}
-use Rattle.std.specs.FinMap.{FinMap, empty, get, get-empty, same_map}
+use Rattle.std.specs.FinMap.{FinMap, get}
 use Rattle.base_values.specs.declared.Position.{Position}
-use Rattle.base_values.specs.Places.{position_cmp}
+use Rattle.base_values.specs.Places.{IsPlace, position_cmp}
 use Rattle.base_values.specs.laws.Places.{position_total, exact_positions}
 use Rattle.base_axis.specs.Along.{Along, IsAxis, rows, columns}
 use Rattle.base_axis.specs.declared.MergedCell.{MergedCell}
+use Rattle.base_axis.specs.laws.Lawful.{rows_lawful, columns_lawful}
 use Rattle.base_maps.specs.Carried.{if_there, lost_map, moved_map, overlaid, settled}
 use Rattle.base_maps.specs.Tagged.{place_on}
 use Rattle.base_maps.specs.laws.CarriedLaws.{get-parts_map}
 use Rattle.base_maps.specs.laws.Found.{all_come_back, found_by, all_found}
-use Rattle.base_maps.specs.laws.Gathering.{get-lost_map, nothing_overlaid}
 use Rattle.base_maps.specs.laws.Tagged.{get-all_under}
 use Rattle.formula_tree.specs.declared.Node.{Node}
 use Rattle.format_rules.specs.declared.ConditionalFormatting.{ConditionalFormatting}
 use Rattle.sheet_grid.specs.declared.Cell.{Cell}
-use Rattle.sheet_grid.specs.declared.LineAttr.{LineAttr}
 use Rattle.sheet_grid.specs.declared.Link.{Link}
 use Rattle.sheet_grid.specs.contracts.line_attr.LineAttrPartialEq.TheImpl as attribute
 use Rattle.sheet_grid.specs.Sheet.{Sheet}
@@ -28,67 +27,53 @@ use Rattle.line_edits.specs.declared.EditKind.{EditKind}
 use Rattle.line_edits.specs.Edit.{IsValid}
 use Rattle.line_edits.specs.Moves.{LineMoves, edit_moves, place_image}
 use Rattle.line_edits.specs.laws.OneToOne.{edit_one_to_one}
-use Rattle.line_map.specs.Attributes.{line_goes_along, heirs, lines_carried, lines_restored}
 use Rattle.line_map.specs.Contents.{cell_carried, cell_part, cell_restored}
 use Rattle.line_map.specs.Maps.{entry_part, places_carried, places_restored}
 use Rattle.line_routes.specs.Merges.{merge_carried, merges_carried, merges_part}
 use Rattle.line_routes.specs.Way.{Way, IsWay, at, back, place_goes, is_along}
-use Rattle.line_map.specs.laws.AttributeLaws.{both_of, lines_restore}
+use Rattle.line_map.specs.laws.AttributeLaws.{lines_restore}
+use Rattle.line_map.specs.laws.HeirLaws.{both_of}
 use Rattle.line_map.specs.laws.ContentLaws.{cell_comes_back, cell_restores}
-use Rattle.line_map.specs.laws.MapLaws.{part_there, places_return}
+use Rattle.line_map.specs.laws.MapLaws.{brings_nothing, entries_return, lost_given, part_there, place_keys}
 use Rattle.line_routes.specs.laws.MergeLaws.{merges_come_back, merges_restore}
 use Rattle.rule_lines.specs.Rules.{rules_carried, rules_kept, rules_restored}
 use Rattle.rule_lines.specs.laws.FollowLaws.{formatting_elsewhere}
 use Rattle.rule_lines.specs.laws.RuleLaws.{rules_regained}
 use Rattle.sheet_lines.specs.declared.kept.KeptLines.{KeptLines}
-use Rattle.sheet_lines.specs.Back.{with_lost, merges_back, formattings_back, sheet_back, book_back}
+use Rattle.sheet_lines.specs.Back.{lost_along, merges_back, formattings_back, sheet_back, book_back}
 use Rattle.sheet_lines.specs.Followed.{way_of, way_of_edit, sheet_followed, book_followed}
 use Rattle.sheet_lines.specs.Kept.{lines_of, of_sheet, cells_lost, trees_kept, formulas_kept, merges_kept, formattings_kept, kept_lines}
 use Rattle.sheet_lines.specs.Sheets.{sheet_of, name_of, HasDistinctIds}
 
 -- ---- a sheet
 
-laid_at : {X : Type 0} (to : Position → Option Position) (b : Bool) (given m returned : FinMap position_cmp X) → (b ≡ true → given ≡ lost_map to m) →
-    (if b then overlaid given returned else returned) ≡ overlaid (lost_map (λ p. if b then to p else Some p) m) returned
-laid_at to true given m returned h = ap (λ l. overlaid l returned) (h refl)
-laid_at to false given m returned h =
-    sym (nothing_overlaid position_cmp position_total exact_positions returned)
-    ∙ ap (λ l. overlaid l returned) (same_map position_total exact_positions empty (lost_map Some m)
-    (λ p. get-empty position_cmp p ∙ sym (get-lost_map position_cmp position_total exact_positions Some m p)))
-
--- what was lost of the edited sheet alone is laid over each sheet like what it lost itself
-lost_laid : {X : Type 0} (w : Way) (given m returned : FinMap position_cmp X) → (w.is_edited ≡ true → given ≡ lost_map (place_image w.along w.moves.to) m) →
-    with_lost w given returned ≡ overlaid (lost_map (place_goes w) m) returned
+-- what was lost of the edited sheet alone is what each sheet lost itself
+lost_laid : {X : Type 0} (w : Way) (given m : FinMap position_cmp X) → (w.is_edited ≡ true → given ≡ lost_map (place_image w.along w.moves.to) m) →
+    lost_along w.is_edited given ≡ lost_map (place_goes w) m
 unfolding place_goes
-lost_laid w given m returned lost = laid_at (place_image w.along w.moves.to) w.is_edited given m returned lost
+lost_laid w given m lost = lost_given position_cmp place_keys (place_image w.along w.moves.to) w.is_edited given m lost
 
 module _ (w : Way) (is : IsWay w) where
   -- the cells of a sheet, with trees that are those kept of them
   cells_regained : (cells given : FinMap position_cmp Cell) (trees : Position → Option Node) →
       (w.is_edited ≡ true → given ≡ lost_map (place_image w.along w.moves.to) cells) →
-      ((p : Position) → trees p ≡ entry_part cell_part w cells p) →
-      with_lost w given (places_restored cell_carried (λ _ cell tree. cell_restored cell tree) w trees (places_carried cell_carried w cells)) ≡ cells
-  cells_regained cells given trees lost kept = lost_laid w given cells _ lost
-      ∙ places_return w is cell_carried cell_part (λ _ cell tree. cell_restored cell tree) (λ _ _. ⊤) (λ v _ x _. cell_comes_back v x)
-      (λ v _ x _. cell_restores v x) cells (λ p q x held there. tt) trees (λ p q x there held. kept p ∙ part_there w is cell_part cells p q x there held)
+      ((p : Position) → trees p ≡ entry_part place_goes at cell_part w cells p) →
+      overlaid (lost_along w.is_edited given) (places_restored cell_carried (λ _ cell tree. cell_restored cell tree) w trees
+      (places_carried cell_carried w cells)) ≡ cells
+  cells_regained cells given trees lost kept =
+      ap (λ l. overlaid l (places_restored cell_carried (λ _ cell tree. cell_restored cell tree) w trees (places_carried cell_carried w cells)))
+      (lost_laid w given cells lost)
+      ∙ entries_return place_keys w is cell_carried cell_part (λ _ cell tree. cell_restored cell tree) (λ _ _. ⊤) (λ v _ x _. cell_comes_back v x)
+      (λ v _ x _. cell_restores v x) (brings_nothing IsPlace place_goes) cells (λ p q x held there. tt) trees
+      (λ p q x there held. kept p ∙ part_there place_keys w is cell_part cells p q x there held)
 
   -- its links, of which nothing but the lost ones is kept
   links_regained : (links given : FinMap position_cmp Link) → (w.is_edited ≡ true → given ≡ lost_map (place_image w.along w.moves.to) links) →
-      with_lost w given (places_carried (λ _ link. link) (back w) (places_carried (λ _ link. link) w links)) ≡ links
-  links_regained links given lost = lost_laid w given links _ lost
-      ∙ places_return w is {P = ⊤} (λ _ link. link) (λ _ _. None) (λ _ link _. link) (λ _ _. ⊤) (λ v _ x _ h. refl)
-      (λ v _ x _ k h. refl) links (λ p q x held there. tt) (λ _. None) (λ p q x there held. refl)
-
-  -- what the lines of an axis have
-  attributes_regained : (b : Along) (m given : FinMap int_cmp LineAttr) → (line_goes_along b w ≡ true → given ≡ lost_map w.moves.to m) →
-      lines_restored b w (lines_carried b attribute.ghosts.eq w m) given ≡ m
-  attributes_regained b m given lost = by_axis (line_goes_along b w) refl
-    where
-      by_axis : (along : Bool) → line_goes_along b w ≡ along → lines_restored b w (lines_carried b attribute.ghosts.eq w m) given ≡ m
-      by_axis true h = lines_restore w is b attribute.ghosts.eq m given (ap (λ t. if t then Some (lost_map w.moves.to m) else None) h ∙ ap Some (sym (lost h)))
-      by_axis false h = ap (λ t. if t then overlaid given (moved_map w.moves.from
-          (if t then overlaid (heirs b attribute.ghosts.eq w.moves.inserted m) (moved_map w.moves.to m) else m)) else
-          (if t then overlaid (heirs b attribute.ghosts.eq w.moves.inserted m) (moved_map w.moves.to m) else m)) h
+      overlaid (lost_along w.is_edited given) (moved_map (place_goes (back w)) (place_goes w) (places_carried (λ _ link. link) w links)) ≡ links
+  links_regained links given lost =
+      ap (λ l. overlaid l (moved_map (place_goes (back w)) (place_goes w) (places_carried (λ _ link. link) w links))) (lost_laid w given links lost)
+      ∙ entries_return place_keys w is {P = ⊤} (λ _ link. link) (λ _ _. None) (λ _ link _. link) (λ _ _. ⊤) (λ v _ x _ h. refl)
+      (λ v _ x _ k h. refl) (brings_nothing IsPlace place_goes) links (λ p q x held there. tt) (λ _. None) (λ p q x there held. refl)
 
 -- on another sheet than the edited one merges stay
 apart : (w : Way) → w.is_edited ≡ false → (merges : List MergedCell) → merges_carried (back w) (merges_carried w merges) ≡ merges
@@ -134,12 +119,12 @@ columns_alone a l h = by_axis l.one_of
 -- the trees that are kept under an id are those of the formulas of its sheet
 pub formulas_at : (a : Along) (m : LineMoves) (id : ℕ) (edited : List ℕ) (book : Book) → HasDistinctIds book → (n : ℕ) (p : Position) →
     get (formulas_kept a m id edited book.worksheets) (place_on n p) ≡
-    if_there (sheet_of book n) (λ sheet. entry_part cell_part (way_of a m id edited sheet) sheet.cells p)
+    if_there (sheet_of book n) (λ sheet. entry_part place_goes at cell_part (way_of a m id edited sheet) sheet.cells p)
 formulas_at a m id edited book distinct n p = get-all_under (λ sheet. sheet.id) (trees_kept a m id edited) book.worksheets distinct n p
     ∙ at_sheet (sheet_of book n)
   where
     at_sheet : (o : Option Sheet) → if_there o (λ sheet. get (trees_kept a m id edited sheet) p) ≡
-        if_there o (λ sheet. entry_part cell_part (way_of a m id edited sheet) sheet.cells p)
+        if_there o (λ sheet. entry_part place_goes at cell_part (way_of a m id edited sheet) sheet.cells p)
     at_sheet None = refl
     at_sheet (Some sheet) = let w : Way = way_of a m id edited sheet in
         get-parts_map position_cmp position_total exact_positions (place_goes w) (λ p q x. cell_part (at w p q) x) sheet.cells p
@@ -175,11 +160,12 @@ module _ (a : Along) (l : IsAxis a) (e : EditKind) (valid : IsValid a.last e) (i
         cells = cells_regained w is sheet.cells kept.cells (λ p. get kept.formulas (place_on sheet.id p))
             (λ same. ap (of_sheet (cells_lost a moves)) (it same))
             (λ p. formulas_at a moves id (name_of (sheet_of book id)) book distinct sheet.id p
-            ∙ ap (λ o. if_there o (λ s. entry_part cell_part (way_to s) s.cells p)) found) i;
+            ∙ ap (λ o. if_there o (λ s. entry_part place_goes at cell_part (way_to s) s.cells p)) found) i;
         links = links_regained w is sheet.links kept.links (λ same. ap (of_sheet (λ s. lost_map (place_image a moves.to) s.links)) (it same)) i;
-        rows = attributes_regained w is rows sheet.rows kept.lines (λ h. let along = both_of w.is_edited (is_along a rows) h in lines along.0
+        rows = lines_restore w is rows rows_lawful attribute.ghosts.eq sheet.rows kept.lines (λ h. let along = both_of w.is_edited
+            (is_along a rows) h in lines along.0
             ∙ ap (λ t. lost_map moves.to (if t then sheet.rows else sheet.columns)) along.1) i;
-        columns = attributes_regained w is columns sheet.columns kept.lines
+        columns = lines_restore w is columns columns_lawful attribute.ghosts.eq sheet.columns kept.lines
             (λ h. let along = both_of w.is_edited (is_along a columns) h in lines along.0
             ∙ ap (λ t. lost_map moves.to (if t then sheet.rows else sheet.columns)) (columns_alone a l along.1)) i;
         merges = merges_regained w sheet.merges kept.merges (λ same. ap (merges_kept a moves id (name_of (sheet_of book id))) (it same)) i;
@@ -192,6 +178,7 @@ module _ (a : Along) (l : IsAxis a) (e : EditKind) (valid : IsValid a.last e) (i
   book_regained = λ i. record book {
     worksheets = (ap (λ name. map (λ sheet. sheet_back (way_of a moves id name sheet) kept sheet) (book_followed a e id book).worksheets)
         (same_name a moves id (name_of (sheet_of book id)) id book.worksheets)
-        ∙ all_come_back (λ sheet. sheet_of book sheet.id ≡ Some sheet) (λ sheet. sheet_followed (way_to sheet) sheet) (λ sheet. sheet_back (way_to sheet) kept sheet) sheet_regained
+        ∙ all_come_back (λ sheet. sheet_of book sheet.id ≡ Some sheet) (λ sheet. sheet_followed (way_to sheet) sheet) (λ sheet. sheet_back
+        (way_to sheet) kept sheet) sheet_regained
         book.worksheets (all_found (λ sheet. sheet.id) book.worksheets distinct)) i;
   }

@@ -14,16 +14,15 @@ use Rattle.base_axis.specs.Along.{Along, IsAxis, rows, columns}
 use Rattle.base_axis.specs.declared.MergedCell.{MergedCell}
 use Rattle.base_maps.specs.Carried.{if_there, lost_map, overlaid, settled}
 use Rattle.base_maps.specs.Tagged.{place_on}
-use Rattle.base_maps.specs.laws.Each.{Each, each_found, each_from, each_gathered, each_overlaid, holds_of, keys_lost}
+use Rattle.base_maps.specs.laws.Each.{Each, each_found, each_from, each_gathered, each_overlaid, holds_of, keys_lost, no_entry}
 use Rattle.base_maps.specs.laws.Inverses.{own_inverse, turned_inverse}
 use Rattle.formula_tree.specs.declared.Node.{Node}
 use Rattle.formula_tree.specs.declared.numbers.NumberRule.TheVariants.{Canonical}
 use Rattle.formula_tree.specs.Numbers.{has_canonical_numbers}
 use Rattle.formula_tree.specs.Placed.{is_placed}
 use Rattle.formula_back.specs.laws.MovedNumbers.{numbers-moved}
-use Rattle.cell_content.specs.declared.Content.{Content}
-use Rattle.cell_content.specs.CanonicalContent.{IsCanonicalContent}
 use Rattle.cell_content.specs.Lens.{tree_of}
+use Rattle.cell_content.specs.laws.ChangedLaws.{changed-kept}
 use Rattle.cell_content.specs.laws.LensLaws.{tree_of-with_tree, tree_of-kept, with_tree-kept}
 use Rattle.format_rules.specs.declared.ConditionalFormatting.{ConditionalFormatting}
 use Rattle.sheet_grid.specs.declared.Cell.{Cell}
@@ -35,7 +34,7 @@ use Rattle.line_edits.specs.Edit.{IsValid}
 use Rattle.line_edits.specs.Moves.{edit_moves, place_image}
 use Rattle.line_edits.specs.laws.OneToOne.{edit_one_to_one}
 use Rattle.line_map.specs.Attributes.{LinesLie}
-use Rattle.line_map.specs.Contents.{with_new_tree, cell_carried, cell_part, cell_restored}
+use Rattle.line_map.specs.Contents.{cell_carried, cell_part, cell_restored}
 use Rattle.line_map.specs.Maps.{places_carried, places_parts, places_restored}
 use Rattle.line_routes.specs.Merges.{merges_carried, MergesLie}
 use Rattle.line_routes.specs.Trees.{following, tree_carried, tree_part}
@@ -48,7 +47,7 @@ use Rattle.rule_lines.specs.Canonical.{KeptLie}
 use Rattle.rule_lines.specs.Rules.{rules_restored, RulesLie}
 use Rattle.rule_lines.specs.laws.RuleLaws.{restored_lie, rules_stay}
 use Rattle.sheet_lines.specs.declared.kept.KeptLines.{KeptLines}
-use Rattle.sheet_lines.specs.Back.{with_lost, merges_back, formattings_back, sheet_back, book_back, LieInside, ArePlacedLines}
+use Rattle.sheet_lines.specs.Back.{lost_along, merges_back, formattings_back, sheet_back, book_back, LieInside, ArePlacedLines}
 use Rattle.sheet_lines.specs.Followed.{way_of, way_of_edit, sheet_followed, book_followed}
 use Rattle.sheet_lines.specs.Kept.{lines_of}
 use Rattle.sheet_lines.specs.CanonicalNumbers.{AreCanonicalFormulas}
@@ -64,16 +63,15 @@ pub record Stays (P : Position → Cell → Type 0) (Q : Position → Node → T
 abbrev pub HasCanonicalNumbers : Node → Type 0
 HasCanonicalNumbers tree = IsTrue (has_canonical_numbers tree)
 
-kept_with : (w : Way) (content : Content) (o : Option Node) → IsCanonicalContent content → IfSome o HasCanonicalNumbers →
-    IsCanonicalContent (with_new_tree content (if_there o (λ tree. Some (tree_carried w tree))))
+numbers_carried : (w : Way) (tree : Node) → HasCanonicalNumbers tree → HasCanonicalNumbers (tree_carried w tree)
 unfolding tree_carried
-kept_with w content None h k = h
-kept_with w content (Some tree) h k = with_tree-kept content (tree_carried w tree) h (subst IsTrue (sym (numbers-moved Canonical w.to (following w) tree)) k)
+numbers_carried w tree numbers = subst IsTrue (sym (numbers-moved Canonical w.to (following w) tree)) numbers
 
 -- numbers stay canonical
 pub numbers_stay : Stays (λ _. IsCanonicalCell) (λ _. HasCanonicalNumbers)
 numbers_stay = record {
-  carried = λ w is p q x h. kept_with (at w p q) x.content (tree_of x.content) h (tree_of-kept x.content h);
+  carried = λ w is p q x h. changed-kept (tree_carried (at w p q)) x.content
+      (numbers_carried (at w p q)) h;
   restored = λ p q x k h kept. with_tree-kept x.content k h kept;
 }
 
@@ -106,15 +104,15 @@ module _ (w : Way) (is : IsWay w) where
 
     -- and of those that are taken back, with cells and trees of which it holds
     pub back_are : (lost : FinMap position_cmp Cell) (parts : Position → Option Node) → Each P lost → ((p : Position) → IfSome (parts p) (Q p)) →
-        Each P (with_lost w lost (places_restored cell_carried (λ _ cell tree. cell_restored cell tree) w parts cells))
+        Each P (overlaid (lost_along w.is_edited lost) (places_restored cell_carried (λ _ cell tree. cell_restored cell tree) w parts cells))
     back_are lost parts laid fit =
         let restored = places_restored cell_carried (λ _ cell tree. cell_restored cell tree) w parts cells in
         let all_restored : Each P restored =
         each_gathered position_cmp position_total exact_positions P (place_goes (back w)) (place_goes w) (turned_inverse (goes_inverse w is))
         (λ q p x. Some (settled (cell_carried (back (at w p q))) cell_restored (parts p) x)) cells
         (λ q p x home held. settled_are p q x (each_found position_cmp P cells all q x held) (parts p) (fit p)) in
-        elim w.is_edited as (λ t. Each P (if t then overlaid lost restored else restored))
-        [ true ↦ each_overlaid position_cmp position_total exact_positions P lost restored laid all_restored | false ↦ all_restored ]
+        each_overlaid position_cmp position_total exact_positions P (lost_along w.is_edited lost) restored
+        (elim w.is_edited as (λ t. Each P (lost_along t lost)) [ true ↦ laid | false ↦ no_entry position_cmp P ]) all_restored
 
   part_at : (v : Way) (o : Option Node) → IfSome o HasCanonicalNumbers → IfSome (if_there o (tree_part v)) HasCanonicalNumbers
   part_at v None h = tt

@@ -8,4 +8,4 @@ loop-place-preserved c = made_on position_total exact_positions c.loop-place.inv
     (c.in-Some.place, c.in-Some.cell) c.in-Some.is c.next.ensures.steps c.in_ok-keep_cell.ensures.kept
 
 pub returns-clause-kept : goal.returns-clause-kept
-returns-clause-kept c = made_all position_total exact_positions c.loop-place.invariant c.next.new.self c.in-None.is c.next.ensures.steps
+returns-clause-kept c = made_all position_total exact_positions c.loop-place.invariant own_inverse c.next.new.self c.in-None.is c.next.ensures.steps

@@ -39,4 +39,4 @@ loop-line-preserved g c =
     )
 
 pub returns-clause-put : goal.returns-clause-put
-returns-clause-put g c = made_all int_cmp_total exact_signed c.loop-line.invariant.0 c.next.new.self c.in-None.is c.next.ensures.steps
+returns-clause-put g c = made_all int_cmp_total exact_signed c.loop-line.invariant.0 own_inverse c.next.new.self c.in-None.is c.next.ensures.steps

@@ -24,4 +24,4 @@ loop-place-preserved c = (
 )
 
 pub returns-clause-arrays : goal.returns-clause-arrays
-returns-clause-arrays c = made_all position_total exact_positions c.loop-place.invariant.0 c.next.new.self c.in-None.is c.next.ensures.steps
+returns-clause-arrays c = made_all position_total exact_positions c.loop-place.invariant.0 own_inverse c.next.new.self c.in-None.is c.next.ensures.steps

@@ -10,6 +10,7 @@ use Rattle.base_maps.specs.Carried.{lost_map}
 use Rattle.base_maps.specs.laws.Each.{each_lost, holds_of, keys_lost}
 use Rattle.base_maps.specs.laws.Found.{found_holds, found_passes}
 use Rattle.line_map.specs.Maps.{KeysInside}
+use Rattle.line_map.specs.laws.UnderLaws.{rekeyed_own}
 use Rattle.line_edits.specs.Moves.{LineMoves, place_image}
 use Rattle.line_routes.specs.Merges.{merges_part, MergesLie}
 use Rattle.line_routes.specs.Way.{place_goes, way}
@@ -36,6 +37,10 @@ lost_are : (a : Along) (m : LineMoves) (id : ℕ) (book : Book) (sheet : Sheet) 
     first_lost a m id book.worksheets ≡ Some lost → lost ≡ cells_lost a m sheet
 lost_are a m id book sheet lost found is = let same : Some lost ≡ Some (cells_lost a m sheet) = sym is ∙ ap (option_map (cells_lost a m)) found in cc
 
+pub lost_attributes-requires : goal.lost_attributes-requires
+lost_attributes-requires g c = found_passes (λ s. s.id == c.args.edited.now.id) c.args.workbook.now.worksheets c.in-Some.sheet.now
+    (sym c.sheet_of.ensures ∙ ap option_copied c.in-Some.is)
+
 pub part-requires : goal.part-requires
 part-requires g c =
     subst MergesLie (sym c.merge_list.ensures) (merges_lie c.args.workbook.now c.args.edited.now.id c.in-Some.sheet.now c.requires.placed
@@ -58,7 +63,8 @@ returns-clause-kept g c =
     λ i. record {
       cells = (lost_are a moves edited.id book sheet c.unwrap.result found (sym c.requires.lost ∙ c.unwrap.ensures)
           ∙ sym (ap (of_sheet (cells_lost a moves)) found)) i;
-      links = (c.in_ok-links.ensures.links
+      links = (sym (rekeyed_own position_total exact_positions c.in_ok-links.links.lost) ∙ c.in_ok-links.ensures.lost
+          ∙ (λ j. lost_map (place_goes (c.route_on-route.ensures.way j)) (c.link_map-2.ensures j))
           ∙ lost_places (way_on edited sheet) it sheet.links
           ∙ sym (ap (of_sheet (λ s. lost_map (place_image a moves.to) s.links)) found)) i;
       lines = (c.in_ok-lines.ensures.lines ∙ sym (ap (of_sheet (λ s. lost_map moves.to (lines_of a s))) found)) i;
@@ -98,12 +104,13 @@ returns-clause-inside g c =
       cells = subst KeysInside (sym (lost_are a moves edited.id book sheet c.unwrap.result found (sym c.requires.lost ∙ c.unwrap.ensures)))
           (keys_lost position_cmp position_total exact_positions IsPlace (place_image a moves.to) sheet.cells
           (subst KeysInside c.cell_map.ensures.map c.places_inside.ensures));
-      links = subst KeysInside (sym c.in_ok-links.ensures.links)
+      links = subst KeysInside (sym (sym (rekeyed_own position_total exact_positions c.in_ok-links.links.lost) ∙ c.in_ok-links.ensures.lost
+          ∙ (λ j. lost_map (place_goes (c.route_on-route.ensures.way j)) (c.link_map-2.ensures j))))
           (keys_lost position_cmp position_total exact_positions IsPlace (place_goes (way_on edited sheet)) sheet.links
           (subst KeysInside c.link_map.ensures c.places_inside-2.ensures));
       lines = subst (LinesLie a) (sym c.in_ok-lines.ensures.lines)
-          (lost_lines_lie a g.met.A.Axis.lawful sheet (subst (LinesLie rows) c.row_map.ensures c.lines_inside.ensures)
-          (subst (LinesLie columns) c.column_map.ensures c.lines_inside-2.ensures) moves.to);
+          (lost_lines_lie a g.met.A.Axis.lawful sheet (subst (LinesLie rows) c.row_map.ensures c.places_inside-3.ensures)
+          (subst (LinesLie columns) c.column_map.ensures c.places_inside-4.ensures) moves.to);
       merges = subst (λ o. IfSome o MergesLie) (sym c.in_ok-merges.ensures.part)
           (holds_of MergesLie (merges_part (way c.route_on-route.result) c.merge_list.result.now)
           (merges_part_fits (way c.route_on-route.result) c.route_on-route.ensures.is c.merge_list.result.now

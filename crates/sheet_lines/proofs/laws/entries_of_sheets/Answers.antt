@@ -60,7 +60,7 @@ returns-clause-lines g c edited sheet =
 -- what is lost of the edited sheet by place
 lost_entries : {X : Type 0} (a : Along) (e : EditKind) (id : ℕ) (book : Book) (sheet : Sheet) (m : FinMap position_cmp X) →
     sheet_of book id ≡ Some sheet → (p : Position) →
-    get (lost_map (place_image a (edit_moves a.last e).to) m) p ≡ entry_lost (way_of_edit a e id book sheet) m p
+    get (lost_map (place_image a (edit_moves a.last e).to) m) p ≡ entry_lost (place_goes (way_of_edit a e id book sheet)) m p
 lost_entries a e id book sheet m found p =
     let w = way_of_edit a e id book sheet in
     ap (λ lost. get lost p) (sym (lost_places w (found_passes (λ s. s.id == id) book.worksheets sheet found) m))

@@ -1,0 +1,178 @@
+//! What the lines of an axis have of their own: each entry goes where its line goes.
+
+ghost use Rattle.std.specs.Prelude.{◌≡◌, ◌+ℤ◌, ◌-ℤ◌, pos, IsOkUnless, OnOk};
+ghost use Rattle.std.specs.Option.{option_copied};
+ghost use Rattle.std.specs.FinMap.{get};
+ghost use Rattle.base_values.specs.declared.EditError.TheVariants.{NoMemory};
+ghost use Rattle.base_maps.specs.Carried.{overlaid};
+ghost use Rattle.line_edits.specs.Edit.{amount, within};
+ghost use Rattle.line_map.specs.Attributes.{line_goes_along, heir, with_line, block_with, block_heirs, heirs, LinesLie};
+ghost use Rattle.line_routes.specs.Way.{way};
+
+use crate::follower::Follower;
+use crate::restored::put_copy;
+use crate::route_keys::RouteKeys;
+use base_axis::{Axis, AxisMap, LineKeys};
+use base_maps::NumberKeys;
+use base_values::{EditError, Exact};
+use line_edits::{Block, LineMap, within};
+use line_routes::Route;
+
+/// Whether the lines of an axis go along a route: those of the edited axis of the edited sheet.
+pub fn goes_along<A: Axis, B: Axis, M: LineMap<A>>(route: &Route<'_, A, M>) -> bool
+    ensures { result ≡ line_goes_along B.along (way route.now) }
+{
+    route.is_edited && A::of(B::of(true, false), B::of(false, true))
+}
+
+/// What lines take that come to stand between two others: what both of these have, where that is
+/// the same.
+fn heir<'m, V: Exact>(before: Option<&'m V>, after: Option<&'m V>) -> Option<&'m V>
+    ensures { option_copied result ≡ heir V.eq (option_copied before.entry) (option_copied after.entry) }
+{
+    let (before, after) = (before?, after?);
+    if *before == *after {
+        Some(before)
+    } else {
+        None
+    }
+}
+
+/// How many: none of a number below 0.
+fn amount(count: i32) -> u32
+    ensures { result ≡ amount count }
+{
+    if count < 0 { 0 } else { count as u32 }
+}
+
+/// The line that stands so many lines after another one.
+fn line_after(line: i32, distance: u32) -> i64
+    ensures { result ≡ line +ℤ pos distance }
+{
+    i64::from(line) + i64::from(distance)
+}
+
+/// Gives a line a copy of a value, if it is one of the axis.
+fn fill_line<B: Axis, V: Exact + Drop>(
+    line: i64,
+    value: &V,
+    map: &mut AxisMap<B, V>,
+) -> Result<(), EditError>
+    ensures map { OnOk result (map.new ≡ with_line (within B.along.last line) value.now map.old) }
+    ensures only { IsOkUnless result NoMemory }
+{
+    match within(B::LAST, line) {
+        Some(line) => put_copy(line, value, map),
+        None => Ok(()),
+    }
+}
+
+/// Gives the lines of a block, as far as they are lines of the axis, a copy of a value.
+fn fill_block<B: Axis, V: Exact + Drop>(
+    block: Block,
+    value: &V,
+    map: &mut AxisMap<B, V>,
+) -> Result<(), EditError>
+    ensures map { OnOk result (map.new ≡ overlaid (block_with B.along.last value.now block) map.old) }
+    ensures only { IsOkUnless result NoMemory }
+{
+    let count = amount(block.count);
+    for i in 0..count {
+        let line = line_after(block.first, i);
+        fill_line(line, value, map)?;
+    }
+    Ok(())
+}
+
+/// What the line before a line has.
+fn held_before<B: Axis, V: Drop>(map: &AxisMap<B, V>, line: i32) -> Option<&V>
+    requires { LinesLie B.along map.now }
+    ensures { option_copied result ≡ get map.now (line -ℤ pos 1) }
+{
+    if line <= 1 { None } else { map.get(line - 1) }
+}
+
+/// Gives a block of lines that are brought in what they take from the lines around them.
+fn give_block<B: Axis, V: Exact + Drop>(
+    block: Block,
+    map: &AxisMap<B, V>,
+    output: &mut AxisMap<B, V>,
+) -> Result<(), EditError>
+    requires { LinesLie B.along map.now }
+    ensures output { OnOk result (output.new ≡ overlaid (block_heirs B.along.last V.eq map.now block) output.old) }
+    ensures only { IsOkUnless result NoMemory }
+{
+    let (before, after) = (held_before(map, block.first), map.get(block.first));
+    match heir(before, after) {
+        Some(value) => fill_block(block, value, output),
+        None => Ok(()),
+    }
+}
+
+/// Gives the lines that are brought in what they take: columns do, rows take nothing.
+fn give_heirs<B: Axis, V: Exact + Drop>(
+    inserted: Option<Block>,
+    map: &AxisMap<B, V>,
+    output: &mut AxisMap<B, V>,
+) -> Result<(), EditError>
+    requires { LinesLie B.along map.now }
+    ensures output { OnOk result (output.new ≡ overlaid (heirs B.along V.eq inserted map.now) output.old) }
+    ensures only { IsOkUnless result NoMemory }
+{
+    if !B::of(false, true) {
+        return Ok(());
+    }
+    match inserted {
+        Some(block) => give_block(block, map, output),
+        None => Ok(()),
+    }
+}
+
+/// Lines go along on the edited axis of the edited sheet. Columns that are brought in take what the
+/// columns before and after them both have, where that is the same.
+impl<A: Axis, B: Axis, F: Follower<A> + Exact> RouteKeys<A, F> for LineKeys<B, F> {
+    ghost use Rattle.line_map.specs.Attributes.{line_goes, lines_brought};
+    ghost use Rattle.line_map.specs.laws.AttributeLaws.{line_keys, lines_bring};
+
+    type Lost = NumberKeys<F>;
+
+    type Parts = NumberKeys<F::Part>;
+
+    ghost goes = { line_goes B.along };
+
+    ghost at = { λ w _ _. w };
+
+    ghost with_brought = { lines_brought B.along F.eq };
+
+    fn goes<M: LineMap<A>>(route: &Route<'_, A, M>, line: i32) -> Option<i32> {
+        if goes_along::<A, B, M>(route) {
+            route.map.image(line)
+        } else {
+            Some(line)
+        }
+    }
+
+    fn at<'a, M: LineMap<A>>(route: &Route<'a, A, M>, _from: i32, _to: i32) -> Route<'a, A, M> {
+        *route
+    }
+
+    fn bring<M: LineMap<A>>(
+        route: &Route<'_, A, M>,
+        map: &AxisMap<B, F>,
+        carried: &mut AxisMap<B, F>,
+    ) -> Result<(), EditError> {
+        if goes_along::<A, B, M>(route) {
+            give_heirs(route.inserted(), map, carried)
+        } else {
+            Ok(())
+        }
+    }
+
+    ghost are_keys = { line_keys B.along B.lawful };
+
+    ghost brings = { lines_bring B.along B.lawful F.eq };
+
+    ghost lost_fit = { λ key. tt };
+
+    ghost parts_fit = { λ key. tt };
+}

@@ -18,4 +18,4 @@ put_under id m own = put_keys_under place_on id m own
 
 -- the maps of the items of a list, each under the id of its item
 abbrev pub all_under : {S X : Type 0} → (S → ℕ) → (S → FinMap position_cmp X) → List S → FinMap sheet_place_cmp X
-all_under id_of map_of items = all_keys_under place_on id_of map_of items
+all_under id_of map_of items = all_keys_under place_on (λ at. at.sheet) (λ at. at.place) id_of map_of items

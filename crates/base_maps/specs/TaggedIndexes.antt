@@ -12,4 +12,4 @@ index_on id index = record { sheet = id; index = index }
 
 -- the maps of the items of a list, each under the id of its item
 abbrev pub all_under : {S X : Type 0} → (S → ℕ) → (S → FinMap nat_cmp X) → List S → FinMap sheet_index_cmp X
-all_under id_of map_of items = all_keys_under index_on id_of map_of items
+all_under id_of map_of items = all_keys_under index_on (λ at. at.sheet) (λ at. at.index) id_of map_of items

@@ -1,12 +1,14 @@
 //! What the lines of an axis have of their own: each entry goes where its line goes.
 
-ghost use Rattle.std.specs.Prelude.{◌≡◌, ◌+ℤ◌, ◌-ℤ◌, pos, IsOkUnless, OnOk};
+ghost use Rattle.std.specs.Prelude.{◌≡◌, ◌+ℤ◌, ◌-ℤ◌, pos, IsOkUnless, OnOk, Some};
 ghost use Rattle.std.specs.Option.{option_copied};
 ghost use Rattle.std.specs.FinMap.{get};
 ghost use Rattle.base_values.specs.declared.EditError.TheVariants.{NoMemory};
-ghost use Rattle.base_maps.specs.Carried.{overlaid};
+ghost use Rattle.base_maps.specs.Carried.{if_there, overlaid};
+ghost use Rattle.base_maps.specs.laws.Gathering.{with_made};
 ghost use Rattle.line_edits.specs.Edit.{amount, within};
-ghost use Rattle.line_map.specs.Attributes.{line_goes_along, heir, with_line, block_with, block_heirs, heirs, LinesLie};
+ghost use Rattle.line_map.specs.Attributes.{block_lines, heir, heirs, line_brought, line_goes_along, LinesLie};
+ghost use Rattle.line_map.specs.laws.HeirLaws.{Filled};
 ghost use Rattle.line_routes.specs.Way.{way};
 
 use crate::follower::Follower;
@@ -58,7 +60,7 @@ fn fill_line<B: Axis, V: Exact + Drop>(
     value: &V,
     map: &mut AxisMap<B, V>,
 ) -> Result<(), EditError>
-    ensures map { OnOk result (map.new ≡ with_line (within B.along.last line) value.now map.old) }
+    ensures map { OnOk result (map.new ≡ with_made (if_there (within B.along.last line) (λ n. Some (n, value.now))) map.old) }
     ensures only { IsOkUnless result NoMemory }
 {
     match within(B::LAST, line) {
@@ -73,7 +75,7 @@ fn fill_block<B: Axis, V: Exact + Drop>(
     value: &V,
     map: &mut AxisMap<B, V>,
 ) -> Result<(), EditError>
-    ensures map { OnOk result (map.new ≡ overlaid (block_with B.along.last value.now block) map.old) }
+    ensures map { OnOk result (Filled (block_lines B.along.last (Some block)) (Some value.now) map.old map.new) }
     ensures only { IsOkUnless result NoMemory }
 {
     let count = amount(block.count);
@@ -92,24 +94,19 @@ fn held_before<B: Axis, V: Drop>(map: &AxisMap<B, V>, line: i32) -> Option<&V>
     if line <= 1 { None } else { map.get(line - 1) }
 }
 
-/// Gives a block of lines that are brought in what they take from the lines around them.
-fn give_block<B: Axis, V: Exact + Drop>(
-    block: Block,
-    map: &AxisMap<B, V>,
-    output: &mut AxisMap<B, V>,
-) -> Result<(), EditError>
+/// What each line of a block has that is brought in, from the map before.
+fn line_brought<B: Axis, V: Exact + Drop>(map: &AxisMap<B, V>, block: Block) -> Option<&V>
     requires { LinesLie B.along map.now }
-    ensures output { OnOk result (output.new ≡ overlaid (block_heirs B.along.last V.eq map.now block) output.old) }
-    ensures only { IsOkUnless result NoMemory }
+    ensures { option_copied result ≡ line_brought B.along V.eq map.now block }
 {
-    let (before, after) = (held_before(map, block.first), map.get(block.first));
-    match heir(before, after) {
-        Some(value) => fill_block(block, value, output),
-        None => Ok(()),
+    if !B::of(false, true) {
+        return None;
     }
+    let (before, after) = (held_before(map, block.first), map.get(block.first));
+    heir(before, after)
 }
 
-/// Gives the lines that are brought in what they take: columns do, rows take nothing.
+/// Gives the lines that are brought in what they take.
 fn give_heirs<B: Axis, V: Exact + Drop>(
     inserted: Option<Block>,
     map: &AxisMap<B, V>,
@@ -119,11 +116,11 @@ fn give_heirs<B: Axis, V: Exact + Drop>(
     ensures output { OnOk result (output.new ≡ overlaid (heirs B.along V.eq inserted map.now) output.old) }
     ensures only { IsOkUnless result NoMemory }
 {
-    if !B::of(false, true) {
-        return Ok(());
-    }
     match inserted {
-        Some(block) => give_block(block, map, output),
+        Some(block) => match line_brought(map, block) {
+            Some(value) => fill_block(block, value, output),
+            None => Ok(()),
+        },
         None => Ok(()),
     }
 }

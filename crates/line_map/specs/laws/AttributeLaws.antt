@@ -1,77 +1,31 @@
 -- The law of followers for what lines have of their own.
-use Rattle.std.proofs.Common.{◌≡◌, ◌⊎◌, inl, inr, ℕ, suc, ℤ, pos, ◌+ℤ◌, ◌-ℤ◌, Bool, true, false, cond, Option, Some, None, refl}
+use Rattle.std.proofs.Common.{◌≡◌, ◌⊎◌, inl, inr, ℤ, Bool, true, false, Option, Some, None, refl, arith}
 use Rattle.std.proofs.Common.{ap, sym, subst, ◌∙◌}
-use Rattle.std.specs.Prelude.{IfSome, is_some, ⊤, if◌then◌else◌}
+use Rattle.std.proofs.lemmas.Int.{ints}
+use Rattle.std.specs.Prelude.{◌&&◌, IfSome, ⊤, is_some, if◌then◌else◌}
 use Rattle.std.specs.Ordering.{int_cmp}
 use Rattle.std.specs.Cmp.{int_cmp_total}
-use Rattle.std.specs.FinMap.{FinMap, empty, get, int_cmp-IsAntisymmetric, same_map}
-use Rattle.base_values.specs.Places.{IsLine}
+use Rattle.std.specs.FinMap.{FinMap, get, int_cmp-IsAntisymmetric}
+use Rattle.base_values.specs.Places.{IsLine, is_line}
 use Rattle.base_axis.specs.Along.{Along, IsAxis, rows, columns}
-use Rattle.line_edits.specs.declared.Block.{Block}
-use Rattle.line_map.specs.Attributes.{line_goes_along, line_goes, heir, with_line, filled, block_given, block_heirs, heirs, lines_brought, lines_carried}
-use Rattle.line_map.specs.Attributes.{lines_restored, LinesLie}
-use Rattle.line_map.specs.laws.HeirLaws.{both_of, heirs_given}
-use Rattle.line_map.specs.Keys.{AreKeys, BringsBeside, KeysAre}
-use Rattle.line_map.specs.Maps.{entries_carried, entries_restored}
-use Rattle.line_map.specs.laws.MapLaws.{entries_return, entries_stay, lost_given}
-use Rattle.base_maps.specs.Carried.{Inverse, carried_map, moved_map, lost_map, overlaid}
-use Rattle.line_edits.specs.Edit.{within}
-use Rattle.line_routes.specs.Way.{Way, IsWay, is_along}
-use Rattle.base_maps.specs.laws.CarriedLaws.{get-moved_map}
-use Rattle.base_maps.specs.laws.Each.{each_found, each_from, each_overlaid}
-use Rattle.base_maps.specs.laws.Gathering.{get-overlaid, nothing_overlaid, overlaid_more}
+use Rattle.base_maps.specs.Carried.{Inverse, if_there, lost_map, moved_map, overlaid}
 use Rattle.base_maps.specs.laws.Inverses.{own_inverse}
+use Rattle.line_edits.specs.Moves.{is_brought}
+use Rattle.line_map.specs.Attributes.{heirs, line_brought, line_goes_along, line_goes, lines_brought, lines_carried, lines_restored, LinesLie}
+use Rattle.line_map.specs.Keys.{AreKeys, BringsBeside, KeysAre}
+use Rattle.line_map.specs.laws.HeirLaws.{both_of, get-brought}
+use Rattle.line_map.specs.laws.MapLaws.{entries_return, entries_stay, lost_given}
+use Rattle.line_routes.specs.Way.{Way, IsWay, back, is_along}
 
 -- lines that go along are those of the same axis
 pub same_last : (a b : Along) → IsAxis a → IsAxis b → is_along a b ≡ true → a.last ≡ b.last
 same_last a b h i along = by_axes h.one_of i.one_of
   where
-    crossed : {c d : Along} → a ≡ c → b ≡ d → c.of (d.of true false) (d.of false true) ≡ false → a.last ≡ b.last
-    crossed p q apart = let no : is_along a b ≡ false = (λ j. (p j).of ((q j).of true false) ((q j).of false true)) ∙ apart in absurd (cc)
-
     by_axes : (a ≡ rows) ⊎ (a ≡ columns) → (b ≡ rows) ⊎ (b ≡ columns) → a.last ≡ b.last
     by_axes (inl p) (inl q) = ap (λ c. c.last) (p ∙ sym q)
-    by_axes (inl p) (inr q) = crossed p q refl
-    by_axes (inr p) (inl q) = crossed p q refl
+    by_axes (inl p) (inr q) = absurd (let no : false ≡ true = (λ j. is_along (sym p j) (sym q j)) ∙ along in cc)
+    by_axes (inr p) (inl q) = absurd (let no : false ≡ true = (λ j. is_along (sym p j) (sym q j)) ∙ along in cc)
     by_axes (inr p) (inr q) = ap (λ c. c.last) (p ∙ sym q)
-
-module _ {X : Type 0} where
-  -- one more line that is filled
-  pub filled_more : (last : ℤ) (x : X) (first : ℤ) (i : ℕ) (line : ℤ) (before after m : FinMap int_cmp X) →
-      before ≡ overlaid (filled last x first i) m → after ≡ with_line (within last line) x before → line ≡ first +ℤ pos i →
-      after ≡ overlaid (filled last x first (suc i)) m
-  unfolding filled
-  filled_more last x first i line before after m was now here =
-      now ∙ (λ j. with_line (within last (here j)) x (was j)) ∙ laid_line (within last (first +ℤ pos i)) (filled last x first i)
-    where
-      laid_line : (o : Option ℤ) (f : FinMap int_cmp X) → with_line o x (overlaid f m) ≡ overlaid (with_line o x f) m
-      laid_line None f = refl
-      laid_line (Some n) f = overlaid_more int_cmp int_cmp_total int_cmp-IsAntisymmetric f m n x
-
-  -- nothing is laid over a map
-  pub still : (m : FinMap int_cmp X) → m ≡ overlaid empty m
-  still m = sym (nothing_overlaid int_cmp int_cmp_total int_cmp-IsAntisymmetric m)
-
-  pub filled_none : (last : ℤ) (x : X) (first : ℤ) (m : FinMap int_cmp X) → m ≡ overlaid (filled last x first 0) m
-  unfolding filled
-  filled_none last x first m = still m
-
-  -- a block that takes nothing
-  pub none_taken : (last : ℤ) (same : X → X → Bool) (block : Block) (m output : FinMap int_cmp X) (before after : ℤ) → before ≡ block.first -ℤ pos 1 →
-      after ≡ block.first → heir same (get m before) (get m after) ≡ None → output ≡ overlaid (block_heirs last same m block) output
-  none_taken last same block m output before after p q h = still output ∙ ap (λ o. overlaid (block_given last block o) output) (sym h)
-      ∙ (λ i. overlaid (block_given last block (heir same (get m (p i)) (get m (q i)))) output)
-
-  -- lines that are no columns, or none that are brought in
-  pub none_brought : (b : Along) (same : X → X → Bool) (o : Option Block) (m output : FinMap int_cmp X) → (o ≡ None) ⊎ (b.of false true ≡ false) →
-      output ≡ overlaid (heirs b same o m) output
-  none_brought b same None m output h = still output
-  none_brought b same (Some block) m output (inl h) = absurd (cc)
-  none_brought b same (Some block) m output (inr h) = still output ∙ ap (λ t. overlaid (if t then block_heirs b.last same m block else empty) output) (sym h)
-
-  overlaid_are : (P : ℤ → Type 0) (over m : FinMap int_cmp X) → KeysAre P over → KeysAre P m → KeysAre P (overlaid over m)
-  overlaid_are P over m h i = each_found int_cmp (λ n _. P n) (overlaid over m) (each_overlaid int_cmp int_cmp_total int_cmp-IsAntisymmetric (λ n _. P n) over m
-      (each_from int_cmp (λ n _. P n) over h) (each_from int_cmp (λ n _. P n) m i))
 
 -- lines are keys that are carried along
 pub line_keys : (b : Along) → IsAxis b → AreKeys int_cmp (IsLine b.last) (line_goes b) (λ w _ _. w)
@@ -96,63 +50,40 @@ pub lines_bring : {X : Type 0} (b : Along) → IsAxis b → (same : X → X → 
 lines_bring {X} b i same = record {
   beside = λ w is m carried p q. elim (line_goes_along b w) as (λ t. (if t then w.moves.to p else Some p) ≡ Some q →
       get (if t then overlaid (heirs b same w.moves.inserted m) carried else carried) q ≡ get carried q) [
-        | true ↦ λ there. get-overlaid int_cmp int_cmp_total int_cmp-IsAntisymmetric (heirs b same w.moves.inserted m) carried q
-            ∙ ap (λ o. cond (is_some o) o (get carried q)) (not_given w is m p q there _ refl)
+        | true ↦ λ there. let taken : Option X = if_there w.moves.inserted (line_brought b same m) in get-brought b same w.moves.inserted m carried q
+            ∙ ap (λ t. if t && is_line b.last q then (if is_some taken then taken else get carried q) else get carried q) (none_comes w is p q there _ refl)
         | false ↦ λ there. refl
       ];
   inside = λ w is m carried fit. elim (line_goes_along b w) as (λ t. KeysAre (IsLine b.last) (if t then overlaid
       (heirs b same w.moves.inserted m) carried else carried)) [
-        | true ↦ overlaid_are (IsLine b.last) (heirs b same w.moves.inserted m) carried (λ n y h. (heirs_given b same w.moves.inserted m n y h).0) fit
+        | true ↦ λ n x h. lies n x (is_brought w.moves.inserted n) _ _ _ refl (fit n x) (sym (get-brought b same w.moves.inserted m carried n) ∙ h)
         | false ↦ fit
       ];
 }
   where
-    not_given : (w : Way) → IsWay w → (m : FinMap int_cmp X) (p q : ℤ) → w.moves.to p ≡ Some q → (o : Option X) → get (heirs b same w.moves.inserted m) q ≡ o →
-        get (heirs b same w.moves.inserted m) q ≡ None
-    not_given w is m p q there None e = e
-    not_given w is m p q there (Some y) e =
-        let nowhere : w.moves.from q ≡ None = is.one_to_one.fresh q (heirs_given b same w.moves.inserted m q y e).1 in
+    none_comes : (w : Way) → IsWay w → (p q : ℤ) → w.moves.to p ≡ Some q → (t : Bool) → is_brought w.moves.inserted q ≡ t → t ≡ false
+    none_comes w is p q there false e = refl
+    none_comes w is p q there true e =
+        let nowhere : w.moves.from q ≡ None = is.one_to_one.fresh q e in
         let from : w.moves.from q ≡ Some p = is.one_to_one.inverse.back p q there in
         absurd (cc)
 
-module _ {X : Type 0} (w : Way) (is : IsWay w) (b : Along) where
-  -- where lines stay, so do their entries
-  lines_still : (m : FinMap int_cmp X) → carried_map Some Some (λ _ _ x. x) m ≡ m
-  lines_still m = same_map int_cmp_total int_cmp-IsAntisymmetric _ m
-      (λ n. get-moved_map int_cmp int_cmp_total int_cmp-IsAntisymmetric Some Some own_inverse m n)
+    lies : (n : ℤ) (x : X) (a t : Bool) (o v : Option X) → (a && is_line b.last n) ≡ t → (v ≡ Some x → IsLine b.last n) → (if t then o else v) ≡ Some x →
+        IsLine b.last n
+    lies n x a true o v e fit h = let on_axis = (both_of a (is_line b.last n) e).1 in (grind (arith, ints), grind (arith, ints))
+    lies n x a false o v e fit h = fit h
 
-  -- what lines have that stays as it is goes with them
-  pub lines_are : (same : X → X → Bool) (m : FinMap int_cmp X) →
-      lines_brought b same w m (entries_carried (line_goes b) (λ w _ _. w) (λ _ x. x) w m) ≡ lines_carried b same w m
-  lines_are same m = elim (line_goes_along b w) as (λ t.
-      (if t then overlaid (heirs b same w.moves.inserted m) (carried_map (λ n. if t then w.moves.to n else Some n) (λ n. if t then w.moves.from n else Some n)
-      (λ _ _ x. x) m)
-      else carried_map (λ n. if t then w.moves.to n else Some n) (λ n. if t then w.moves.from n else Some n) (λ _ _ x. x) m)
-      ≡ (if t then overlaid (heirs b same w.moves.inserted m) (moved_map w.moves.to w.moves.from m) else m)) [ true ↦ refl | false ↦ lines_still m ]
+module _ {X : Type 0} (w : Way) (is : IsWay w) (b : Along) (i : IsAxis b) (same : X → X → Bool) (m : FinMap int_cmp X) where
+  -- what is carried along lies on the axis
+  pub lines_stay : LinesLie b m → LinesLie b (lines_carried b same w m)
+  lines_stay lie = (entries_stay (line_keys b i) w is (λ _ x. x) (λ _ _. ⊤) (λ v way x h. tt) m
+      (record { places = lie; items = λ p q x held there. tt }) (lines_bring b i same)).places
 
-  -- and comes back with them
-  pub lines_back_are : (P : Type 0) (m lost : FinMap int_cmp X) →
-      overlaid (if line_goes_along b w then lost else empty) (entries_restored (line_goes b) (λ w _ _. w) {P = P} (λ _ x. x) (λ _ x _. x) w
-      (λ _. None) m) ≡ lines_restored b w m lost
-  lines_back_are P m lost = elim (line_goes_along b w) as (λ t.
-      overlaid (if t then lost else empty) (carried_map (λ n. if t then w.moves.from n else Some n) (λ n. if t then w.moves.to n else Some n) (λ _ _ x. x) m)
-      ≡ (if t then overlaid lost (moved_map w.moves.from w.moves.to m) else m)) [
-        | true ↦ refl
-        | false ↦ nothing_overlaid int_cmp int_cmp_total int_cmp-IsAntisymmetric (carried_map Some Some (λ _ _ x. x) m) ∙ lines_still m
-      ]
-
-  module _ (i : IsAxis b) (same : X → X → Bool) (m : FinMap int_cmp X) where
-    -- what is carried along lies on the axis
-    pub lines_stay : LinesLie b m → LinesLie b (lines_carried b same w m)
-    lines_stay lie = subst (LinesLie b) (lines_are same m) (entries_stay (line_keys b i) w is (λ _ x. x) (λ _ _. ⊤) (λ v way x h. tt) m
-        (record { places = lie; items = λ p q x held there. tt }) (lines_bring b i same)).places
-
-    -- what goes back with what was kept is the map
-    pub lines_restore : (given : FinMap int_cmp X) → (line_goes_along b w ≡ true → given ≡ lost_map w.moves.to m) →
-        lines_restored b w (lines_carried b same w m) given ≡ m
-    lines_restore given lost =
-        sym (lines_back_are ⊤ (lines_carried b same w m) given)
-        ∙ (λ j. overlaid (lost_given int_cmp (line_keys b i) w.moves.to (line_goes_along b w) given m lost j)
-        (entries_restored (line_goes b) (λ w _ _. w) {P = ⊤} (λ _ x. x) (λ _ x _. x) w (λ _. None) (sym (lines_are same m) j)))
-        ∙ entries_return (line_keys b i) w is {P = ⊤} (λ _ x. x) (λ _ _. None) (λ _ x _. x) (λ _ _. ⊤) (λ v way x lies h. refl) (λ v way x lies k h. refl)
-        (lines_bring b i same) m (λ p q x held there. tt) (λ _. None) (λ p q x there held. refl)
+  -- what goes back with what was kept is the map
+  pub lines_restore : (given : FinMap int_cmp X) → (line_goes_along b w ≡ true → given ≡ lost_map w.moves.to m) →
+      lines_restored b w (lines_carried b same w m) given ≡ m
+  lines_restore given lost =
+      ap (λ l. overlaid l (moved_map (line_goes b (back w)) (line_goes b w) (lines_carried b same w m)))
+      (lost_given int_cmp (line_keys b i) w.moves.to (line_goes_along b w) given m lost)
+      ∙ entries_return (line_keys b i) w is {P = ⊤} (λ _ x. x) (λ _ _. None) (λ _ x _. x) (λ _ _. ⊤) (λ v way x lies h. refl) (λ v way x lies k h. refl)
+      (lines_bring b i same) m (λ p q x held there. tt) (λ _. None) (λ p q x there held. refl)

@@ -10,6 +10,7 @@ abbrev pub edit_way : Along → EditKind → Way
 edit_way a e = record {
   along = a;
   moves = edit_moves a.last e;
+  sheet = 0;
   own = [];
   edited = [];
   is_edited = true;

@@ -1,5 +1,5 @@
 -- How a map on the lines of one sheet meets a sheet of the workbook, and what stands there.
-use Rattle.std.specs.Prelude.{ℕ, Bool, true, false, List, Option, Some, None, if◌then◌else◌}
+use Rattle.std.specs.Prelude.{ℕ, ◌==◌, Bool, true, false, List, Option, Some, None, if◌then◌else◌}
 use Rattle.base_values.specs.declared.Position.{Position}
 use Rattle.base_axis.specs.Along.{Along, IsAxis}
 use Rattle.base_axis.specs.declared.axis.Axis as axis
@@ -7,11 +7,12 @@ use Rattle.line_edits.specs.declared.LineMap as line_map
 use Rattle.line_routes.specs.declared.route.Route.{Route}
 use Rattle.line_edits.specs.Moves.{LineMoves, IsOneToOne, turned, place_image}
 
--- the axis and the map, the names of the sheet and of the edited one, whether they are one sheet, and the place of what is carried
--- along, before and afterwards
+-- the axis and the map, the id of the edited sheet, the names of the sheet and of the edited one, whether they are one sheet, and the
+-- place of what is carried along, before and afterwards
 pub record Way : Type 0 where
   pub along : Along
   pub moves : LineMoves
+  pub sheet : ℕ
   pub own : List ℕ
   pub edited : List ℕ
   pub is_edited : Bool
@@ -25,6 +26,10 @@ back w = record w { moves = turned w.moves; from = w.to; to = w.from }
 -- the same for what goes from a place to a place
 abbrev pub at : Way → Position → Position → Way
 at w from to = record w { from = from; to = to }
+
+-- the same for what stands on the sheet of an id, which has that name
+abbrev pub on : Way → ℕ → List ℕ → Way
+on w id own = record w { own = own; is_edited = id == w.sheet }
 
 -- it is one: the map is one to one along an axis
 pub record IsWay (w : Way) : Type 0 where
@@ -44,6 +49,7 @@ abbrev pub way : {A M : Type 0} {a : axis.Ghosts A} {m : line_map.Ghosts M A} �
 way {a = a} {m = m} r = record {
   along = a.along;
   moves = record (m.moves r.map.now) { inserted = if r.brings then (m.moves r.map.now).inserted else None };
+  sheet = r.sheet;
   own = r.own.now;
   edited = r.edited.now;
   is_edited = r.is_edited;

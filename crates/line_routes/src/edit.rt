@@ -9,7 +9,7 @@ use base_values::Position;
 use line_edits::LineEdit;
 use std::marker::PhantomData;
 
-/// The route of an edit on the edited sheet, whose name is left open.
+/// The route of an edit on the edited sheet, whose name and id are left open.
 pub fn edit_route<'e, A: Axis>(
     edit: &'e LineEdit<A>,
     opposite: &'e LineEdit<A>,
@@ -23,6 +23,7 @@ pub fn edit_route<'e, A: Axis>(
         map: edit,
         opposite,
         brings: true,
+        sheet: 0,
         own: "",
         edited: "",
         is_own: true,

@@ -16,6 +16,8 @@ pub struct Route<'a, A: Axis, M: LineMap<A>> {
     pub opposite: &'a M,
     /// Whether lines are brought in.
     pub brings: bool,
+    /// The id of the edited sheet.
+    pub sheet: u32,
     /// The names of the sheet and of the edited one.
     pub own: &'a str,
     pub edited: &'a str,

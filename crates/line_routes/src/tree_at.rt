@@ -71,6 +71,7 @@ pub(crate) fn named<'t, 'a: 't, A: Axis, M: LineMap<A>>(
         map: route.map,
         opposite: route.opposite,
         brings: route.brings,
+        sheet: route.sheet,
         own,
         edited,
         is_own: same_by_folding(own, edited),

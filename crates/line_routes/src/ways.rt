@@ -1,10 +1,11 @@
-ghost use Rattle.std.specs.Prelude.{◌≡◌, IfSome};
+ghost use Rattle.std.specs.Prelude.{◌≡◌, true, IfSome};
 ghost use Rattle.base_values.specs.Places.{IsPlace};
 ghost use Rattle.line_edits.specs.Moves.{place_image};
-ghost use Rattle.line_routes.specs.Way.{IsWay, at, back, place_goes, way};
+ghost use Rattle.line_routes.specs.Way.{IsWay, at, back, on, place_goes, way};
 
 use crate::route::Route;
 use base_axis::Axis;
+use base_tables::same_by_folding;
 use base_values::Position;
 use line_edits::{Block, LineMap, place_image};
 use std::marker::PhantomData;
@@ -20,12 +21,55 @@ impl<'a, A: Axis, M: LineMap<A>> Route<'a, A, M> {
             map: self.map,
             opposite: self.opposite,
             brings: self.brings,
+            sheet: self.sheet,
             own: self.own,
             edited: self.edited,
             is_own: self.is_own,
             is_edited: self.is_edited,
             from,
             to,
+            axis: PhantomData,
+        }
+    }
+
+    /// The same where the edited sheet has this id and this name.
+    pub fn of_sheet<'t>(&self, sheet: u32, edited: &'t str) -> Route<'t, A, M>
+    where
+        'a: 't,
+        ensures { way result ≡ record (way self.now) { sheet = sheet; own = edited.now; edited = edited.now; is_edited = true } }
+    {
+        Route {
+            map: self.map,
+            opposite: self.opposite,
+            brings: self.brings,
+            sheet,
+            own: edited,
+            edited,
+            is_own: same_by_folding(edited, edited),
+            is_edited: true,
+            from: self.from,
+            to: self.to,
+            axis: PhantomData,
+        }
+    }
+
+    /// The route of what stands on the sheet of this id, which has this name.
+    pub fn on<'t>(&self, sheet: u32, own: &'t str) -> Route<'t, A, M>
+    where
+        'a: 't,
+        ensures { way result ≡ on (way self.now) sheet own.now }
+    {
+        Route {
+            map: self.map,
+            opposite: self.opposite,
+            brings: self.brings,
+            sheet: self.sheet,
+            own,
+            edited: self.edited,
+            is_own: same_by_folding(own, self.edited),
+            is_edited: sheet == self.sheet,
+            from: self.from,
+            to: self.to,
             axis: PhantomData,
         }
     }
@@ -38,6 +82,7 @@ impl<'a, A: Axis, M: LineMap<A>> Route<'a, A, M> {
             map: self.opposite,
             opposite: self.map,
             brings: false,
+            sheet: self.sheet,
             own: self.own,
             edited: self.edited,
             is_own: self.is_own,

@@ -1,17 +1,13 @@
 ghost use Rattle.std.specs.Prelude.{◌≡◌, IfOk, IsOkUnless};
 ghost use Rattle.base_values.specs.declared.EditError.TheVariants.{NoMemory};
-ghost use Rattle.line_routes.specs.Way.{way};
-ghost use Rattle.rule_lines.specs.EditedRules.{way_on};
 
 use crate::rules::{carried_items, kept_items, restored_items};
 use base_axis::Axis;
 use base_maps::IndexMap;
-use base_tables::same_by_folding;
 use base_values::{EditError, Exact, Items, Text, copy_of};
 use format_rules::ConditionalFormatting;
 use line_map::{Follower, LineMap, Route};
 use std::alloc::Global;
-use std::marker::PhantomData;
 
 /// The rules of the sheet that is edited, with the name of that sheet. Names are compared by simple
 /// case folding.
@@ -28,27 +24,6 @@ impl Exact for EditedRules {
     ghost copies = { λ a b h. Prim.search rules };
 
     ghost equals = { edited_rules_equals };
-}
-
-/// The route of what stands on the edited sheet, which has this name.
-fn route_on<'t, 'a: 't, A: Axis, M: LineMap<A>>(
-    route: &Route<'a, A, M>,
-    edited: &'t str,
-) -> Route<'t, A, M>
-    ensures { way result ≡ way_on (way route.now) edited.now }
-{
-    Route {
-        map: route.map,
-        opposite: route.opposite,
-        brings: route.brings,
-        own: edited,
-        edited,
-        is_own: same_by_folding(edited, edited),
-        is_edited: true,
-        from: route.from,
-        to: route.to,
-        axis: PhantomData,
-    }
 }
 
 /// The same with other rules.
@@ -87,7 +62,7 @@ impl<A: Axis> Follower<A> for EditedRules {
         alloc: Global,
         route: &Route<'_, A, M>,
     ) -> Result<EditedRules, EditError> {
-        let there = route_on(route, self.edited.as_str());
+        let there = route.of_sheet(route.sheet, self.edited.as_str());
         with_rules(self, carried_items(alloc, &there, self.rules.as_slice())?)
     }
 
@@ -96,7 +71,7 @@ impl<A: Axis> Follower<A> for EditedRules {
         alloc: Global,
         route: &Route<'_, A, M>,
     ) -> Result<Option<IndexMap<ConditionalFormatting>>, EditError> {
-        let there = route_on(route, self.edited.as_str());
+        let there = route.of_sheet(route.sheet, self.edited.as_str());
         Ok(Some(kept_items(alloc, &there, self.rules.as_slice())?))
     }
 
@@ -106,7 +81,7 @@ impl<A: Axis> Follower<A> for EditedRules {
         route: &Route<'_, A, M>,
         part: &IndexMap<ConditionalFormatting>,
     ) -> Result<EditedRules, EditError> {
-        let there = route_on(route, self.edited.as_str());
+        let there = route.of_sheet(route.sheet, self.edited.as_str());
         let rules = restored_items(alloc, &there, self.rules.as_slice(), part)?;
         with_rules(self, rules)
     }

@@ -20,7 +20,8 @@ use formula_tree::{Corner, Node, SumKind, has_canonical_numbers};
 use line_map::{EditKind, LineEdit};
 use sheet_actions::Model;
 use sheet_grid::{Workbook, Worksheet};
-use sheet_lines::{has_sheet, line_back, line_edit};
+use sheet_ids::has_sheet;
+use sheet_lines::{line_back, line_edit};
 use std::alloc::{AllocError, Global};
 
 fn reference(absolute: bool, row: i32, column: i32) -> Node {

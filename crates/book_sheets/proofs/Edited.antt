@@ -12,7 +12,7 @@ use Rattle.sheet_grid.specs.Sheet.{Sheet, new_sheet}
 use Rattle.sheet_grid.specs.Book.{Book, index_of, sheet_at, sheet_inserted, sheet_moved, sheets_moved}
 use Rattle.sheet_rules.specs.laws.EntryLaws.{both}
 use Rattle.sheet_lines.specs.Sheets.{IsPlacedSheet, IsPlacedBook}
-use Rattle.sheet_lines.specs.laws.Found.{found_at, not_found}
+use Rattle.sheet_ids.specs.laws.Found.{found_at, not_found}
 use Rattle.book_sheets.specs.SheetDiffs.{may_come, with_sheet_at, sheet_comes, sheet_as, copied_from, new_forward, copy_forward}
 use Rattle.book_sheets.specs.laws.Placed.{all_inserted, placed_sheets_moved}
 

@@ -21,7 +21,7 @@ use Rattle.sheet_grid.specs.CanonicalCell.{CanonicalCells}
 use Rattle.sheet_grid.specs.Sheet.{Sheet, new_sheet}
 use Rattle.sheet_grid.specs.Book.{Book, index_of, sheets_moved}
 use Rattle.sheet_rules.specs.Names.{first_place}
-use Rattle.sheet_lines.specs.Sheets.{sheet_of}
+use Rattle.sheet_ids.specs.Ids.{sheet_of}
 use Rattle.book_sheets.specs.declared.kept_sheet.KeptSheet.{KeptSheet}
 
 -- ---- a sheet comes

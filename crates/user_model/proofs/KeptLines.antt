@@ -20,7 +20,7 @@ use Rattle.sheet_grid.specs.Book.{Book}
 use Rattle.sheet_rules.specs.laws.EntryLaws.{both}
 use Rattle.sheet_rules.specs.WellFormed.{has_font, have_attributes, is_row, is_column, is_size, is_width, is_row_style, is_column_style, IsWellFormed}
 use Rattle.sheet_lines.specs.Kept.{lines_of, of_sheet, kept_lines}
-use Rattle.sheet_lines.specs.Sheets.{sheet_of}
+use Rattle.sheet_ids.specs.Ids.{sheet_of}
 use Rattle.sheet_history.specs.laws.Entries.{entry_holds}
 use Rattle.sheet_history.specs.laws.RuleLaws.{sheet_rules}
 use Rattle.sheet_wire.specs.laws.Fitting.{IsKeptOfLines}

@@ -28,7 +28,7 @@ use Rattle.sheet_rules.specs.Names.{first_place}
 use Rattle.sheet_rules.specs.WellFormed.{IsWellFormed}
 use Rattle.sheet_rules.specs.laws.EntryLaws.{both}
 use Rattle.sheet_rules.specs.laws.WellFormedLaws.{cells_fit_from_trees, distinct_ids_from_well_formed, well_formed_parts}
-use Rattle.sheet_lines.specs.Sheets.{sheet_of}
+use Rattle.sheet_ids.specs.Ids.{sheet_of}
 use Rattle.sheet_naming.specs.NextIds.{next_id}
 use Rattle.book_sheets.specs.declared.KeptSheet.{KeptSheet}
 use Rattle.book_sheets.specs.SheetDiffs.{deletion_back, kept_of, may_come_back, names_fit}

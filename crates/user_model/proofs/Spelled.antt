@@ -16,7 +16,7 @@ use Rattle.sheet_grid.specs.laws.FittingCells.{is_shallow_entry}
 use Rattle.sheet_grid.specs.laws.FittingLaws.{shallow_entry}
 use Rattle.sheet_rules.specs.WellFormed.{IsWellFormed}
 use Rattle.sheet_rules.specs.laws.EntryLaws.{both}
-use Rattle.sheet_lines.specs.Sheets.{sheet_of}
+use Rattle.sheet_ids.specs.Ids.{sheet_of}
 use Rattle.sheet_history.specs.declared.Diff.{Diff}
 use Rattle.sheet_history.specs.declared.Diff.TheVariants.{Cell as CellDiff, Link as LinkDiff, Merges as MergesDiff, Field as FieldDiff, Lines as LinesDiff, NewSheet as NewDiff, DuplicateSheet as CopyDiff, DeleteSheet as DeletionDiff, MoveSheet as MoveDiff, RenameSheet as RenameDiff, ChangeName as NameDiff, Attributes as AttrDiff, Setting as SettingDiff, Rule as RuleDiff}
 use Rattle.sheet_history.specs.declared.LineAxis.{LineAxis}

@@ -23,7 +23,7 @@ use Rattle.sheet_rules.specs.WellFormed.{have_trees, IsWellFormed}
 use Rattle.sheet_rules.specs.laws.EntryLaws.{both}
 use Rattle.sheet_rules.specs.laws.WellFormedLaws.{well_formed_parts, distinct_ids_from_well_formed}
 use Rattle.sheet_rules.specs.laws.OccupiedLaws.{keeps_merges}
-use Rattle.sheet_lines.specs.Sheets.{sheet_of}
+use Rattle.sheet_ids.specs.Ids.{sheet_of}
 use Rattle.book_sheets.specs.SheetDiffs.{with_sheet_at, without_sheet_at, sheet_comes, sheet_goes, sheet_as, copied_from, kept_of, lies_inside, sheet_lies_inside, cells_fit, are_places, names_fit, may_come_back, new_forward, new_back, copy_forward, copy_back, deletion_forward, deletion_back, sheet_moves}
 use Rattle.book_sheets.specs.laws.SheetRules.{KeepsSheetRules, rules_at}
 pub use Rattle.book_laws.specs.Ways.{LeadsBothWays}

@@ -11,7 +11,7 @@ use Rattle.base_values.specs.declared.EditError.TheVariants.{DiffRefused}
 use Rattle.defined_names.specs.declared.DefinedName.{DefinedName}
 use Rattle.sheet_grid.specs.Sheet.{Sheet}
 use Rattle.sheet_grid.specs.Book.{Book, index_of, sheets_moved}
-use Rattle.sheet_lines.specs.Sheets.{HasDistinctIds}
+use Rattle.sheet_ids.specs.Ids.{HasDistinctIds}
 use Rattle.book_sheets.specs.SheetDiffs.{may_come, with_sheet_at, sheet_comes, without_sheet_at, goes_from, sheet_goes, moved_from, sheet_moves}
 use Rattle.book_laws.specs.laws.Turned.{ids_turned}
 use Rattle.book_laws.specs.laws.ListEdits.{remove_inserted, insert_removed, get_inserted, got_within, length_inserted, length_removed, found_inserted}

@@ -26,7 +26,7 @@ use Rattle.sheet_grid.specs.Book.{Book, sheet_at, with_sheet}
 use Rattle.sheet_rules.specs.Occupied.{array_over, is_hidden_place, may_stand}
 use Rattle.sheet_rules.specs.WellFormed.{has_font, IsWellFormed}
 use Rattle.sheet_rules.specs.laws.HiddenLaws.{shown_where_free}
-use Rattle.sheet_lines.specs.Sheets.{sheet_of}
+use Rattle.sheet_ids.specs.Ids.{sheet_of}
 use Rattle.sheet_history.specs.declared.Diff.{Diff}
 use Rattle.sheet_history.specs.declared.Diff.TheVariants.{Cell as CellDiff, Link as LinkDiff}
 use Rattle.sheet_history.specs.declared.LineAxis.TheVariants.{Rows}

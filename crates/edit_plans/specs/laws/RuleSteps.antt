@@ -14,7 +14,7 @@ use Rattle.sheet_rules.specs.Occupied.{have_arrays, have_merges, are_hidden_blan
 use Rattle.sheet_rules.specs.WellFormed.{are_sheets, have_attributes, have_trees, stands_inside, IsWellFormed}
 use Rattle.sheet_rules.specs.laws.EntryLaws.{both}
 use Rattle.sheet_rules.specs.laws.WellFormedLaws.{well_formed_parts}
-use Rattle.sheet_lines.specs.Sheets.{sheet_of}
+use Rattle.sheet_ids.specs.Ids.{sheet_of}
 use Rattle.book_sheets.specs.laws.SheetRules.{KeepsSheetRules, all_keep, well_formed_by}
 use Rattle.format_rules.specs.declared.ConditionalFormatting.{ConditionalFormatting}
 use Rattle.format_rules.specs.Fitting.{has_fitting_trees, has_parts}

@@ -16,7 +16,7 @@ use Rattle.sheet_rules.specs.Distinct.{are_distinct}
 use Rattle.sheet_rules.specs.SheetNames.{is_sheet_name}
 use Rattle.sheet_rules.specs.WellFormed.{are_sheets, IsWellFormed}
 use Rattle.sheet_rules.specs.laws.WellFormedLaws.{distinct_ids_from_well_formed, well_formed_parts}
-use Rattle.sheet_lines.specs.Sheets.{sheet_of}
+use Rattle.sheet_ids.specs.Ids.{sheet_of}
 use Rattle.sheet_naming.specs.FreeNames.{new_name, copy_name}
 use Rattle.sheet_naming.specs.NextIds.{next_id}
 use Rattle.sheet_naming.specs.laws.IdLaws.{below_next, count_small, next_id_is}

@@ -6,7 +6,7 @@ use Rattle.std.specs.FinMap as fin
 use Rattle.sheet_grid.specs.Sheet.{Sheet}
 use Rattle.sheet_grid.specs.Book.{Book, sheet_at, with_sheet}
 use Rattle.sheet_rules.specs.WellFormed.{IsWellFormed}
-use Rattle.sheet_lines.specs.Sheets.{sheet_of}
+use Rattle.sheet_ids.specs.Ids.{sheet_of}
 use Rattle.sheet_history.specs.declared.Diff.{Diff}
 use Rattle.sheet_history.specs.Entries.{EntryKey, key_cmp, setting_of, sheet_id_of, sheet_entry, with_changed, entry_found, entry_at, bare_sheet, frame_of}
 use Rattle.sheet_history.specs.Entries.EntryKey.{SettingKey}

@@ -12,7 +12,7 @@ use Rattle.sheet_grid.specs.declared.LineAttr.{LineAttr}
 use Rattle.sheet_grid.specs.Sheet.{Sheet}
 use Rattle.sheet_grid.specs.Book.{Book, sheet_at, with_sheet}
 use Rattle.sheet_rules.specs.WellFormed.{IsWellFormed}
-use Rattle.sheet_lines.specs.Sheets.{sheet_of}
+use Rattle.sheet_ids.specs.Ids.{sheet_of}
 use Rattle.line_sizes.specs.declared.LineChange.{LineChange}
 use Rattle.line_sizes.specs.LineChanges.{changed_entry, has_lines, line_count, lines_changed, lines_from}
 use Rattle.line_sizes.specs.laws.ChangedLines.{untouched}

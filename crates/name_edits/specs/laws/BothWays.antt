@@ -23,7 +23,7 @@ use Rattle.sheet_rules.specs.Names.{first_place, have_name_trees}
 use Rattle.base_values.specs.Places.{is_place}
 use Rattle.sheet_rules.specs.WellFormed.{IsWellFormed}
 use Rattle.sheet_rules.specs.laws.WellFormedLaws.{well_formed_parts, distinct_ids_from_well_formed}
-use Rattle.sheet_lines.specs.Sheets.{sheet_of}
+use Rattle.sheet_ids.specs.Ids.{sheet_of}
 use Rattle.book_names.specs.declared.KeptTrees.{KeptTrees}
 use Rattle.book_names.specs.RenameDiffs.{stand_on_places, stand_on_parts, lie_in_sheets, own_place, tree_stands, formulas_stand}
 use Rattle.book_names.specs.RenameDiffs.{names_stand, formatting_stands, formattings_stand, may_stand}

@@ -13,7 +13,8 @@ use Rattle.defined_names.specs.declared.DefinedName.{DefinedName}
 use Rattle.sheet_grid.specs.Sheet.{Sheet}
 use Rattle.sheet_grid.specs.Book.{Book}
 use Rattle.sheet_rules.specs.WellFormed.{ids_of, names_of}
-use Rattle.sheet_lines.specs.Sheets.{IsPlacedSheet, sheet_of, HasDistinctIds}
+use Rattle.sheet_ids.specs.Ids.{sheet_of, HasDistinctIds}
+use Rattle.sheet_lines.specs.Sheets.{IsPlacedSheet}
 use Rattle.book_sheets.specs.laws.SheetRules.{KeepsSheetRules}
 use Rattle.book_names.specs.declared.KeptTrees.{KeptTrees}
 use Rattle.book_names.specs.Renaming.{ArePlacedTrees, defined_renamed, with_kept_tree, names_back}

@@ -19,7 +19,7 @@ use cell_content::tree_fits_at;
 use format_rules::{ConditionalFormatting, has_fitting_trees, has_parts};
 use formula_tree::Node;
 use sheet_grid::{Workbook, Worksheet};
-use sheet_lines::{has_sheet, sheet_of};
+use sheet_ids::{has_sheet, sheet_of};
 use std::alloc::Global;
 
 /// Whether each kept tree of a cell stands at a place of a sheet.

@@ -2,7 +2,7 @@ ghost use Rattle.std.specs.Prelude.{◌≡◌, ℕ, List, Ok, Some, true};
 ghost use Rattle.sheet_grid.specs.Sheet.{Sheet};
 ghost use Rattle.sheet_grid.specs.Book.{Book};
 ghost use Rattle.sheet_rules.specs.WellFormed.{IsWellFormed};
-ghost use Rattle.sheet_lines.specs.Sheets.{HasDistinctIds, sheet_of};
+ghost use Rattle.sheet_ids.specs.Ids.{HasDistinctIds, sheet_of};
 ghost use Rattle.book_names.specs.Renaming.{book_renamed, book_back, trees_kept};
 ghost use Rattle.book_names.specs.RenameDiffs.{rename_forward, rename_back, may_be_named};
 

@@ -19,7 +19,7 @@ use base_values::{EditError, Items, PlaceMap, Text, copy_of};
 use defined_names::NameList;
 use format_rules::RuleList;
 use formula_names::Reach;
-use sheet_grid::{Cell, Workbook, Worksheet};
+use sheet_grid::{Cell, SheetEntries, Workbook, Worksheet};
 use std::alloc::Global;
 
 /// A copy of a sheet that holds these cells and these conditional rules in place of its own.
@@ -32,14 +32,15 @@ fn with_formulas(
     ensures sheet { IfOk result (λ output. output ≡ record sheet.now { cells = cells; formattings = rules }) }
     ensures only { IsOkUnless result NoMemory }
 {
-    sheet.with_entries(
+    let entries = SheetEntries {
         cells,
-        copy_of(sheet.link_map())?,
-        copy_of(sheet.row_map())?,
-        copy_of(sheet.column_map())?,
-        copy_of(sheet.merge_list())?,
-        rules,
-    )
+        links: copy_of(sheet.link_map())?,
+        rows: copy_of(sheet.row_map())?,
+        columns: copy_of(sheet.column_map())?,
+        merges: copy_of(sheet.merge_list())?,
+        formattings: rules,
+    };
+    sheet.with_entries(entries)
 }
 
 /// A copy of a sheet whose formulas are renamed, those of its conditional rules too, as far as the

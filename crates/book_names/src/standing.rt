@@ -10,7 +10,7 @@ use base_values::{PlaceMap, Position};
 use cell_content::{tree_fits_at, tree_of};
 use formula_tree::Node;
 use sheet_grid::{Cell, Workbook, Worksheet};
-use sheet_lines::sheet_of;
+use sheet_ids::sheet_of;
 
 /// Where the formula of each kept tree is sought.
 pub trait FormulaPlace {

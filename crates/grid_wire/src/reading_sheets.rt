@@ -19,7 +19,7 @@ use base_values::{EditError, PlaceMap, Text};
 use cell_wire::{CellPart, ColorPart, LinkPart, MergeListPart};
 use format_rules::RuleList;
 use rule_wire::RuleListPart;
-use sheet_grid::{Cell, LineAttr, Link, Worksheet};
+use sheet_grid::{Cell, LineAttr, Link, SheetEntries, Worksheet};
 use std::alloc::Global;
 
 /// A sheet that has the fields at the front of bytes, and nothing else.
@@ -137,6 +137,14 @@ pub(crate) fn sheet_at<'a>(
     let ((rows, (columns, (cells, (links, (merges, formattings))))), rest) = entries_at(
         alloc, plain, rest,
     )?;
-    let sheet = bare.with_entries(cells, links, rows, columns, merges, formattings)?;
+    let entries = SheetEntries {
+        cells,
+        links,
+        rows,
+        columns,
+        merges,
+        formattings,
+    };
+    let sheet = bare.with_entries(entries)?;
     Ok((sheet, rest))
 }

@@ -5,7 +5,7 @@ use Rattle.line_edits.specs.declared.EditKind.{EditKind}
 use Rattle.line_edits.specs.declared.EditKind.TheVariants.{Insert, Delete, Move}
 use Rattle.sheet_grid.specs.Sheet.{Sheet}
 use Rattle.sheet_grid.specs.Book.{Book}
-use Rattle.sheet_lines.specs.Sheets.{sheet_of}
+use Rattle.sheet_ids.specs.Ids.{sheet_of}
 use Rattle.sheet_actions.specs.Planned.{splits_array, splits_merge, pushes_past}
 
 -- whether a move splits a merge. Insertions and deletions may: they make it larger or smaller

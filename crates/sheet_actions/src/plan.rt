@@ -6,7 +6,7 @@ ghost use Rattle.base_axis.specs.Rectangles.{last_of};
 ghost use Rattle.line_edits.specs.Edit.{IsValid};
 ghost use Rattle.line_edits.specs.declared.EditKind.TheVariants.{Insert, Delete, Move};
 ghost use Rattle.sheet_rules.specs.WellFormed.{IsWellFormed};
-ghost use Rattle.sheet_lines.specs.Sheets.{sheet_of};
+ghost use Rattle.sheet_ids.specs.Ids.{sheet_of};
 ghost use Rattle.sheet_actions.specs.GreatestLine.{greatest_line};
 ghost use Rattle.sheet_actions.specs.Planned.{splits_rectangle, splits_array, splits_merge, pushes_past, refusal_of, lines_planned};
 ghost use Rattle.sheet_actions.specs.Whole.{IsAllowed};

@@ -25,6 +25,7 @@ use Rattle.sheet_grid.specs.declared.link.Link.{Link}
 use Rattle.sheet_grid.specs.declared.line_attr.LineAttr.{LineAttr}
 use Rattle.sheet_grid.specs.declared.row_attr.RowAttr.{RowAttr}
 use Rattle.sheet_grid.specs.declared.column_attr.ColumnAttr.{ColumnAttr}
+use Rattle.sheet_grid.specs.declared.sheet_entries.SheetEntries.{SheetEntries}
 use Rattle.sheet_grid.specs.Lines.{line_of_row, row_of_line, line_of_column, column_of_line, stored_line, own_line_style, line_changed}
 
 pub record Sheet : Type 0 where
@@ -58,6 +59,17 @@ new_sheet id name = record {
   columns = fin.empty;
   merges = [];
   formattings = [];
+}
+
+-- the sheet that holds these entries in place of its own
+abbrev pub with_entries : Sheet → SheetEntries → Sheet
+with_entries sheet entries = record sheet {
+  cells = entries.cells;
+  links = entries.links;
+  rows = entries.rows;
+  columns = entries.columns;
+  merges = entries.merges;
+  formattings = entries.formattings;
 }
 
 -- the cell at a row and a column, or the first of them that is outside

@@ -28,7 +28,8 @@ use Rattle.sheet_rules.specs.laws.EntryLaws.{both}
 use Rattle.sheet_rules.specs.laws.WellFormedLaws.{well_formed_parts, cells_fit_from_trees}
 use Rattle.sheet_rules.specs.Occupied.{have_merges}
 use Rattle.sheet_rules.specs.WellFormed.{have_trees, IsWellFormed}
-use Rattle.sheet_lines.specs.Sheets.{IsPlacedCell, IsPlacedSheet, IsPlacedBook, sheet_of}
+use Rattle.sheet_ids.specs.Ids.{sheet_of}
+use Rattle.sheet_lines.specs.Sheets.{IsPlacedCell, IsPlacedSheet, IsPlacedBook}
 use Rattle.book_sheets.specs.laws.Placed.{placed_cell, merges_lie}
 use Rattle.sheet_history.specs.Entries.{EntryKey, EntryValue, cell_stands_at, value_fits, setting_of, sheet_id_of, with_sheet_entry, with_changed, entry_placed, entry_accepted, put_entry, accepts}
 use Rattle.sheet_history.specs.Entries.EntryKey.{CellKey, LinkKey, MergesKey, FieldKey, AttrKey}

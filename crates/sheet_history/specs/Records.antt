@@ -16,7 +16,7 @@ use Rattle.sheet_grid.specs.Sheet.{Sheet}
 use Rattle.sheet_grid.specs.Book.{Book}
 use Rattle.sheet_rules.specs.WellFormed.{IsWellFormed}
 use Rattle.sheet_lines.specs.Followed.{book_followed}
-use Rattle.sheet_lines.specs.Sheets.{sheet_of}
+use Rattle.sheet_ids.specs.Ids.{sheet_of}
 use Rattle.sheet_lines.specs.Kept.{kept_lines}
 use Rattle.sheet_history.specs.declared.diff.Diff.{Diff}
 use Rattle.sheet_history.specs.declared.diff.LineAxis.{LineAxis}

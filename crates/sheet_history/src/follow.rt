@@ -3,7 +3,7 @@ ghost use Rattle.base_values.specs.Answers.{Edits};
 ghost use Rattle.sheet_grid.specs.Merges.{is_empty};
 ghost use Rattle.sheet_rules.specs.Occupied.{may_stand};
 ghost use Rattle.sheet_rules.specs.WellFormed.{IsWellFormed};
-ghost use Rattle.sheet_lines.specs.Sheets.{sheet_of};
+ghost use Rattle.sheet_ids.specs.Ids.{sheet_of};
 ghost use Rattle.sheet_history.specs.Diffs.{IsCanonicalList, book_before, follow, book_after};
 ghost use Rattle.sheet_history.specs.Fields.{may_have};
 ghost use Rattle.sheet_history.specs.Untested.{cell_keeps_rules, entry_has_font, field_put_by, is_no_array, diff_keeps_rules, keeps_rules, may_stand_on};
@@ -15,7 +15,7 @@ use base_shared::Shared;
 use base_values::{EditError, Position};
 use cell_content::Content;
 use sheet_grid::{Cell, Workbook, Worksheet, array_at};
-use sheet_lines::sheet_of;
+use sheet_ids::sheet_of;
 use sheet_rules::is_hidden_place;
 use std::alloc::Global;
 

@@ -10,7 +10,8 @@ ghost use Rattle.line_edits.specs.Moves.{place_image};
 ghost use Rattle.sheet_grid.specs.declared.Cell.{Cell};
 ghost use Rattle.sheet_lines.specs.Back.{ArePlacedLines, LieInside};
 ghost use Rattle.sheet_lines.specs.CanonicalNumbers.{AreCanonicalLines};
-ghost use Rattle.sheet_lines.specs.Sheets.{IsPlacedBook, sheet_of};
+ghost use Rattle.sheet_ids.specs.Ids.{sheet_of};
+ghost use Rattle.sheet_lines.specs.Sheets.{IsPlacedBook};
 ghost use Rattle.book_sheets.specs.SheetDiffs.{cells_fit};
 ghost use Rattle.rule_lines.specs.Canonical.{KeptLie};
 ghost use Rattle.sheet_history.specs.LineDiffs.{is_pushed_past, stays_inside, is_there_inside, is_lost_place, is_lost_line, all_keys};
@@ -28,7 +29,8 @@ use line_edits::place_image;
 use line_map::{EditKind, LineEdit};
 use rule_lines::are_there;
 use sheet_grid::{Cell, Workbook, Worksheet};
-use sheet_lines::{KeptLines, followed_book, line_back, sheet_of};
+use sheet_ids::sheet_of;
+use sheet_lines::{KeptLines, followed_book, line_back};
 use std::alloc::Global;
 
 fn is_past(last: i32, line: i32, count: i32) -> bool

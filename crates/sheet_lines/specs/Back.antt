@@ -24,7 +24,7 @@ use Rattle.sheet_grid.specs.declared.Cell.{Cell}
 use Rattle.sheet_grid.specs.Sheet.{Sheet}
 use Rattle.sheet_grid.specs.Book.{Book}
 use Rattle.sheet_lines.specs.declared.kept.KeptLines.{KeptLines}
-use Rattle.sheet_lines.specs.Followed.{way_of_edit}
+use Rattle.sheet_lines.specs.Followed.{book_way, way_on}
 use Rattle.sheet_lines.specs.Sheets.{IsPlacedCell}
 
 -- what was lost where keys go along, and nothing where they stay
@@ -52,11 +52,17 @@ sheet_back w kept sheet = record sheet {
   formattings = formattings_back w kept.formattings sheet.formattings;
 }
 
--- a workbook taken back along an edit of the lines of the sheet of an id: every sheet is, and all else stays
+-- every sheet taken back along the way of the edited sheet
+abbrev pub sheets_back : Way → KeptLines → List Sheet → List Sheet
+sheets_back w kept sheets = map (λ sheet. sheet_back (way_on w sheet) kept sheet) sheets
+
+-- a workbook taken back along the way of the edited sheet: every sheet is, and all else stays
+abbrev pub book_restored : Way → Book → KeptLines → Book
+book_restored w book kept = record book { worksheets = sheets_back w kept book.worksheets }
+
+-- so it is along an edit of the lines of the sheet of an id
 abbrev pub book_back : Along → EditKind → ℕ → KeptLines → Book → Book
-book_back a e id kept book = record book {
-  worksheets = map (λ sheet. sheet_back (way_of_edit a e id book sheet) kept sheet) book.worksheets;
-}
+book_back a e id kept book = book_restored (book_way a e id book) book kept
 
 -- the keys and the merges of what is kept lie inside the sheet
 pub record LieInside (a : Along) (kept : KeptLines) : Type 0 where

@@ -20,7 +20,7 @@ use Rattle.sheet_grid.specs.Book.{Book}
 use Rattle.sheet_lines.specs.declared.kept.KeptLines.{KeptLines}
 use Rattle.sheet_lines.specs.Followed.{way_of_edit, sheet_followed}
 use Rattle.sheet_lines.specs.Kept.{lines_of, kept_lines}
-use Rattle.sheet_lines.specs.Sheets.{sheet_of}
+use Rattle.sheet_ids.specs.Ids.{sheet_of}
 
 -- a sheet has at each place afterwards the cell of the place that it came from, carried along
 abbrev pub CarriesCells : Way → Sheet → Type 0

@@ -1,37 +1,47 @@
 -- A workbook along a map on the lines of one of its sheets.
-use Rattle.std.specs.Prelude.{ℕ, ◌==◌, List, map, pos}
-use Rattle.base_axis.specs.declared.axis.Axis as axis
+use Rattle.std.specs.Prelude.{ℕ, List, map, pos, true}
 use Rattle.base_axis.specs.Along.{Along, rows, columns}
 use Rattle.line_edits.specs.declared.EditKind.{EditKind}
-use Rattle.line_edits.specs.declared.LineMap as line_map
 use Rattle.line_map.specs.Attributes.{lines_carried}
 use Rattle.line_map.specs.Contents.{cell_carried}
 use Rattle.line_map.specs.Maps.{places_carried}
 use Rattle.line_routes.specs.Merges.{merges_carried}
 use Rattle.line_edits.specs.Moves.{LineMoves, edit_moves}
-use Rattle.line_routes.specs.Way.{Way}
+use Rattle.line_routes.specs.Way.{Way, on}
 use Rattle.rule_lines.specs.Rules.{rules_carried}
 use Rattle.sheet_grid.specs.contracts.line_attr.LineAttrPartialEq.TheImpl as attribute
 use Rattle.sheet_grid.specs.Sheet.{Sheet}
 use Rattle.sheet_grid.specs.Book.{Book}
-use Rattle.sheet_lines.specs.declared.edited_sheet.EditedSheet.{EditedSheet}
-use Rattle.sheet_lines.specs.Sheets.{sheet_of, name_of}
+use Rattle.sheet_ids.specs.Ids.{sheet_of, name_of}
 
--- how a map on the lines of the sheet of an id, which has that name, meets a sheet
-abbrev pub way_of : Along → LineMoves → ℕ → List ℕ → Sheet → Way
-way_of a m id edited sheet = record {
+-- how a map on the lines of the sheet of an id, which has that name, meets that sheet
+abbrev pub edited_way : Along → LineMoves → ℕ → List ℕ → Way
+edited_way a m id edited = record {
   along = a;
   moves = m;
-  own = sheet.name;
+  sheet = id;
+  own = edited;
   edited = edited;
-  is_edited = sheet.id == id;
+  is_edited = true;
   from = record { row = pos 1; column = pos 1 };
   to = record { row = pos 1; column = pos 1 };
 }
 
--- how an edit of the lines of the sheet of an id meets a sheet of the workbook
+-- how what meets the edited sheet so meets another one
+abbrev pub way_on : Way → Sheet → Way
+way_on w sheet = on w sheet.id sheet.name
+
+-- how a map on the lines of the sheet of an id, which has that name, meets a sheet
+abbrev pub way_of : Along → LineMoves → ℕ → List ℕ → Sheet → Way
+way_of a m id edited sheet = way_on (edited_way a m id edited) sheet
+
+-- how an edit of the lines of the sheet of an id meets that sheet of a workbook
+abbrev pub book_way : Along → EditKind → ℕ → Book → Way
+book_way a e id book = edited_way a (edit_moves a.last e) id (name_of (sheet_of book id))
+
+-- and a sheet of it
 abbrev pub way_of_edit : Along → EditKind → ℕ → Book → Sheet → Way
-way_of_edit a e id book sheet = way_of a (edit_moves a.last e) id (name_of (sheet_of book id)) sheet
+way_of_edit a e id book sheet = way_on (book_way a e id book) sheet
 
 -- a sheet's cells, links, rows, columns, merges and conditional rules, each where it goes
 abbrev pub sheet_followed : Way → Sheet → Sheet
@@ -44,14 +54,14 @@ sheet_followed w sheet = record sheet {
   formattings = rules_carried w sheet.formattings;
 }
 
--- how the map on the lines of an edited sheet meets a sheet
-abbrev pub way_on : {A M : Type 0} {a : axis.Ghosts A} {m : line_map.Ghosts M A} → EditedSheet A M a m → Sheet → Way
-way_on {a = a} {m = m} edited sheet = way_of a.along (m.moves edited.map.now) edited.id edited.name.now sheet
+-- every sheet follows along the way of the edited sheet
+abbrev pub sheets_followed : Way → List Sheet → List Sheet
+sheets_followed w sheets = map (λ sheet. sheet_followed (way_on w sheet) sheet) sheets
 
--- every sheet follows the map on the lines of the sheet of an id, which has that name
-abbrev pub sheets_followed : Along → LineMoves → ℕ → List ℕ → List Sheet → List Sheet
-sheets_followed a m id edited sheets = map (λ sheet. sheet_followed (way_of a m id edited sheet) sheet) sheets
+-- a workbook along the way of the edited sheet: every sheet follows, and all else stays
+abbrev pub book_carried : Way → Book → Book
+book_carried w book = record book { worksheets = sheets_followed w book.worksheets }
 
--- a workbook along an edit of the lines of the sheet of an id: every sheet follows, and all else stays
+-- so it follows an edit of the lines of the sheet of an id
 abbrev pub book_followed : Along → EditKind → ℕ → Book → Book
-book_followed a e id book = record book { worksheets = sheets_followed a (edit_moves a.last e) id (name_of (sheet_of book id)) book.worksheets }
+book_followed a e id book = book_carried (book_way a e id book) book

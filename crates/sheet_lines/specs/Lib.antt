@@ -4,4 +4,5 @@ pub mod Kept
 pub mod CanonicalNumbers
 pub mod Entries
 pub mod Back
+pub mod Workbooks
 pub mod laws

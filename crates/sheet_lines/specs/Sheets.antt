@@ -1,6 +1,6 @@
--- The sheets of a workbook by their ids.
-use Rattle.std.specs.Prelude.{◌≡◌, ℕ, ◌==◌, List, [], Option, Some, None, map, true, IfSome}
-use Rattle.std.specs.List.{AllByRecursion, IsDistinct, find}
+-- Workbooks whose formulas, merges and conditional rules stand inside their sheets.
+use Rattle.std.specs.Prelude.{◌≡◌, Some, true, IfSome}
+use Rattle.std.specs.List.{AllByRecursion}
 use Rattle.std.specs.FinMap.{get}
 use Rattle.base_values.specs.declared.Position.{Position}
 use Rattle.formula_tree.specs.Placed.{is_placed}
@@ -10,19 +10,6 @@ use Rattle.rule_lines.specs.Rules.{RulesLie}
 use Rattle.sheet_grid.specs.declared.Cell.{Cell}
 use Rattle.sheet_grid.specs.Sheet.{Sheet}
 use Rattle.sheet_grid.specs.Book.{Book}
-
--- the sheet of an id
-abbrev pub sheet_of : Book → ℕ → Option Sheet
-sheet_of book id = find (λ sheet. sheet.id == id) book.worksheets
-
--- the name of a sheet
-abbrev pub name_of : Option Sheet → List ℕ
-name_of None = []
-name_of (Some sheet) = sheet.name
-
--- no two sheets have one id
-abbrev pub HasDistinctIds : Book → Type 0
-HasDistinctIds book = IsDistinct ◌==◌ (map (λ sheet. sheet.id) book.worksheets)
 
 -- the corners of each formula lie inside the sheet, and those of each range are in order
 abbrev pub IsPlacedCell : Position → Cell → Type 0

@@ -1,5 +1,5 @@
-pub mod Found
 pub mod KeptEquals
 pub mod Stays
 pub mod Regained
+pub mod WorkbookLaws
 pub mod LinesAfter

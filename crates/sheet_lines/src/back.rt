@@ -1,4 +1,4 @@
-ghost use Rattle.std.specs.Prelude.{◌≡◌, map, true, IfOk, IfSome, IsOkUnless, IsTrue, is_some};
+ghost use Rattle.std.specs.Prelude.{◌≡◌, true, IfOk, IfSome, IsOkUnless, IsTrue, is_some};
 ghost use Rattle.std.specs.List.{AllByRecursion};
 ghost use Rattle.base_values.specs.declared.EditError.TheVariants.{NoMemory};
 ghost use Rattle.base_maps.specs.Carried.{overlaid};
@@ -10,16 +10,15 @@ ghost use Rattle.line_routes.specs.Merges.{MergesLie};
 ghost use Rattle.line_routes.specs.Way.{back, way};
 ghost use Rattle.rule_lines.specs.Canonical.{AreCanonicalKept};
 ghost use Rattle.rule_lines.specs.Rules.{RulesLie};
-ghost use Rattle.sheet_lines.specs.Back.{LieInside, ArePlacedLines, lost_along, merges_back, formattings_back, sheet_back, book_back};
+ghost use Rattle.sheet_lines.specs.Back.{LieInside, ArePlacedLines, lost_along, merges_back, formattings_back, sheet_back, sheets_back, book_back, book_restored};
 ghost use Rattle.sheet_lines.specs.Followed.{way_on};
 ghost use Rattle.sheet_lines.specs.CanonicalNumbers.{AreCanonicalLines};
-ghost use Rattle.sheet_lines.specs.Sheets.{sheet_of, IsPlacedSheet, IsPlacedBook};
+ghost use Rattle.sheet_ids.specs.Ids.{sheet_of};
+ghost use Rattle.sheet_lines.specs.Sheets.{IsPlacedSheet, IsPlacedBook};
 
-use crate::edited_sheet::EditedSheet;
-use crate::followed::edited_by;
 use crate::inside::places_inside;
 use crate::kept::KeptLines;
-use crate::sheets::route_on;
+use crate::sheets::{book_route, route_on};
 use base_axis::{Axis, AxisMap, MergeList};
 use base_maps::{SheetPlace, SheetPlaceMap};
 use base_shared::Shared;
@@ -31,7 +30,7 @@ use line_map::{
     restored_map,
 };
 use rule_lines::restored_rules;
-use sheet_grid::{LineAttr, Workbook, Worksheet};
+use sheet_grid::{LineAttr, SheetEntries, Workbook, Worksheet};
 use std::alloc::Global;
 
 /// The kept trees of the sheet of an id.
@@ -154,49 +153,68 @@ fn formattings_back<A: Axis, M: LineMap<A>>(
 /// A sheet taken back: each part of it is restored.
 fn sheet_back<A: Axis, M: LineMap<A>>(
     alloc: Global,
-    edited: &EditedSheet<'_, A, M>,
+    route: &Route<'_, A, M>,
     kept: &KeptLines,
     sheet: &Worksheet,
 ) -> Result<Worksheet, EditError>
     requires placed { IsPlacedSheet sheet.now }
     requires numbers { AreCanonicalLines kept.now }
     requires inside { LieInside A.along kept.now }
-    ensures sheet { IfOk result (λ output. output ≡ sheet_back (way_on edited.now sheet.now) kept.now sheet.now) }
+    ensures sheet { IfOk result (λ output. output ≡ sheet_back (way_on (way route.now) sheet.now) kept.now sheet.now) }
     ensures only { IsOkUnless result NoMemory }
 {
-    let route = route_on(edited, sheet);
+    let route = &route_on(route, sheet);
     let (formulas, id) = (&kept.formulas, sheet.get_sheet_id());
     let (cells, links) = (sheet.cell_map(), sheet.link_map());
     // For the proof: what lies inside.
     places_inside(cells);
     places_inside(links);
     let (trees, along) = (SheetTrees { formulas, id }, route.is_edited);
-    let cells = map_back(alloc, &route, &trees, along, &kept.cells, cells)?;
-    let links = map_back(alloc, &route, &NoParts {}, along, &kept.links, links)?;
-    let rows = lines_back(alloc, &route, kept, sheet.row_map())?;
-    let columns = lines_back(alloc, &route, kept, sheet.column_map())?;
-    let merges = merges_back(alloc, &route, kept, sheet)?;
-    let formattings = formattings_back(alloc, &route, kept, sheet)?;
-    sheet.with_entries(cells, links, rows, columns, merges, formattings)
+    let entries = SheetEntries {
+        cells: map_back(alloc, route, &trees, along, &kept.cells, cells)?,
+        links: map_back(alloc, route, &NoParts {}, along, &kept.links, links)?,
+        rows: lines_back(alloc, route, kept, sheet.row_map())?,
+        columns: lines_back(alloc, route, kept, sheet.column_map())?,
+        merges: merges_back(alloc, route, kept, sheet)?,
+        formattings: formattings_back(alloc, route, kept, sheet)?,
+    };
+    sheet.with_entries(entries)
 }
 
 fn sheets_back<A: Axis, M: LineMap<A>>(
     alloc: Global,
-    edited: &EditedSheet<'_, A, M>,
+    route: &Route<'_, A, M>,
     kept: &KeptLines,
     sheets: &[Worksheet],
 ) -> Result<Items<Worksheet>, EditError>
     requires placed { AllByRecursion IsPlacedSheet sheets.now }
     requires numbers { AreCanonicalLines kept.now }
     requires inside { LieInside A.along kept.now }
-    ensures sheets { IfOk result (λ output. output ≡ map (λ sheet. sheet_back (way_on edited.now sheet) kept.now sheet) sheets.now) }
+    ensures sheets { IfOk result (λ output. output ≡ sheets_back (way route.now) kept.now sheets.now) }
     ensures only { IsOkUnless result NoMemory }
 {
     let mut output = Items::empty(alloc);
     for sheet in sheets {
-        output.push(sheet_back(alloc, edited, kept, sheet)?)?;
+        output.push(sheet_back(alloc, route, kept, sheet)?)?;
     }
     Ok(output)
+}
+
+/// The workbook before, from the one along the way of the edited sheet.
+pub(crate) fn restored_book<A: Axis, M: LineMap<A>>(
+    alloc: Global,
+    route: &Route<'_, A, M>,
+    workbook: &Workbook,
+    kept: &KeptLines,
+) -> Result<Workbook, EditError>
+    requires placed { IsPlacedBook workbook.now }
+    requires numbers { AreCanonicalLines kept.now }
+    requires inside { LieInside A.along kept.now }
+    ensures workbook { IfOk result (λ output. output ≡ book_restored (way route.now) workbook.now kept.now) }
+    ensures only { IsOkUnless result NoMemory }
+{
+    let sheets = sheets_back(alloc, route, kept, workbook.worksheets())?;
+    workbook.with_worksheets(sheets)
 }
 
 /// Takes back what `line_edit` did to the lines of the sheet of an id: each place of the sheet goes
@@ -222,7 +240,8 @@ pub fn line_back<A: Axis>(
     ensures only { IsOkUnless result NoMemory }
 {
     let opposite = edit.opposite();
-    let edited = edited_by(workbook, sheet_id, edit, &opposite);
-    let output = sheets_back(alloc, &edited, kept, workbook.worksheets())?;
-    workbook.with_worksheets(output)
+    let route = book_route(workbook, sheet_id, edit, &opposite);
+    // For the proof: the route is a way.
+    route.is_way();
+    restored_book(alloc, &route, workbook, kept)
 }

@@ -2,63 +2,81 @@ ghost use Rattle.std.specs.Prelude.{◌≡◌, IfOk, IsOkUnless, IsTrue, is_some
 ghost use Rattle.base_values.specs.declared.EditError.TheVariants.{NoMemory};
 ghost use Rattle.line_edits.specs.Edit.{IsValid};
 ghost use Rattle.sheet_lines.specs.Back.{LieInside};
-ghost use Rattle.sheet_lines.specs.Followed.{book_followed};
+ghost use Rattle.sheet_lines.specs.Followed.{book_carried, book_followed};
 ghost use Rattle.sheet_lines.specs.Kept.{first_lost, formulas_kept, kept_lines, lines_kept};
 ghost use Rattle.sheet_lines.specs.CanonicalNumbers.{AreCanonicalFormulas, AreCanonicalLines};
-ghost use Rattle.sheet_lines.specs.Sheets.{sheet_of, name_of, IsPlacedBook};
+ghost use Rattle.line_routes.specs.Way.{way};
+ghost use Rattle.sheet_ids.specs.Ids.{sheet_of};
+ghost use Rattle.sheet_lines.specs.Sheets.{IsPlacedBook};
 
-use crate::edited_sheet::EditedSheet;
-use crate::followed::{KeptOfCells, edited_by, followed_with_kept};
+use crate::followed::{KeptOfCells, followed_with_kept};
 use crate::inside::places_inside;
 use crate::keeping::lost_attributes;
 use crate::kept::KeptLines;
-use crate::sheets::{route_on, sheet_of};
+use crate::sheets::{book_route, route_on};
 use base_axis::Axis;
 use base_values::EditError;
-use line_map::{Follower, LineEdit, LineMap, kept_map};
+use line_map::{Follower, LineEdit, LineMap, Route, kept_map};
 use rule_lines::kept_rules;
 use sheet_grid::Workbook;
+use sheet_ids::sheet_of;
 use std::alloc::Global;
 
 /// What is kept of a workbook whose sheet of an id is edited, with what is kept of its cells.
 fn kept_lines<A: Axis, M: LineMap<A>>(
     alloc: Global,
-    edited: &EditedSheet<'_, A, M>,
+    route: &Route<'_, A, M>,
     workbook: &Workbook,
     cells: KeptOfCells,
 ) -> Result<KeptLines, EditError>
-    requires there { IsTrue (is_some (sheet_of workbook.now edited.now.id)) }
-    requires name { edited.now.name.now ≡ name_of (sheet_of workbook.now edited.now.id) }
+    requires there { IsTrue (is_some (sheet_of workbook.now (way route.now).sheet)) }
     requires placed { IsPlacedBook workbook.now }
-    requires lost { cells.lost ≡ first_lost A.along (M.moves edited.now.map.now) edited.now.id workbook.now.worksheets }
-    requires formulas { cells.formulas ≡ formulas_kept A.along (M.moves edited.now.map.now) edited.now.id edited.now.name.now workbook.now.worksheets }
+    requires lost { cells.lost ≡ first_lost (way route.now) workbook.now.worksheets }
+    requires formulas { cells.formulas ≡ formulas_kept (way route.now) workbook.now.worksheets }
     requires canonical { AreCanonicalFormulas cells.formulas }
-    ensures kept { IfOk result (λ kept. kept ≡ lines_kept A.along (M.moves edited.now.map.now) edited.now.id workbook.now) }
+    ensures kept { IfOk result (λ kept. kept ≡ lines_kept (way route.now) workbook.now) }
     ensures numbers { IfOk result AreCanonicalLines }
     ensures inside { IfOk result (LieInside A.along) }
     ensures only { IsOkUnless result NoMemory }
 {
-    let Some(sheet) = sheet_of(workbook, edited.id) else {
+    let Some(sheet) = sheet_of(workbook, route.sheet) else {
         unreachable!()
     };
-    // For the proof: what lies inside.
+    // For the proof: the route is a way, and what lies inside.
+    route.is_way();
     places_inside(sheet.cell_map());
     places_inside(sheet.link_map());
     places_inside(sheet.row_map());
     places_inside(sheet.column_map());
-    let route = route_on(edited, sheet);
-    let links = kept_map(alloc, &route, sheet.link_map())?;
-    let lines = lost_attributes(alloc, edited, sheet)?;
-    let merges = sheet.merge_list().part(alloc, &route)?;
-    let formattings = kept_rules(alloc, &route, sheet.conditional_formatting())?;
+    let there = route_on(route, sheet);
     Ok(KeptLines {
         cells: cells.lost.unwrap(),
-        links: links.lost,
-        lines,
+        links: kept_map(alloc, &there, sheet.link_map())?.lost,
+        lines: lost_attributes(alloc, &there, sheet)?,
         formulas: cells.formulas,
-        merges,
-        formattings,
+        merges: sheet.merge_list().part(alloc, &there)?,
+        formattings: kept_rules(alloc, &there, sheet.conditional_formatting())?,
     })
+}
+
+/// The workbook along the way of the edited sheet, and what the way back does not give.
+pub(crate) fn carried_with_lines<A: Axis, M: LineMap<A>>(
+    alloc: Global,
+    route: &Route<'_, A, M>,
+    workbook: &Workbook,
+) -> Result<(Workbook, KeptLines), EditError>
+    requires there { IsTrue (is_some (sheet_of workbook.now (way route.now).sheet)) }
+    requires placed { IsPlacedBook workbook.now }
+    ensures workbook { IfOk result (λ both. both.0 ≡ book_carried (way route.now) workbook.now) }
+    ensures kept { IfOk result (λ both. both.1 ≡ lines_kept (way route.now) workbook.now) }
+    ensures numbers { IfOk result (λ both. AreCanonicalLines both.1) }
+    ensures inside { IfOk result (λ both. LieInside A.along both.1) }
+    ensures only { IsOkUnless result NoMemory }
+{
+    let (sheets, cells) = followed_with_kept(alloc, route, workbook.worksheets())?;
+    let carried = workbook.with_worksheets(sheets)?;
+    let kept = kept_lines(alloc, route, workbook, cells)?;
+    Ok((carried, kept))
 }
 
 /// Inserts, deletes or moves lines of the sheet of an id. Its cells, links, attributes, merges and
@@ -83,9 +101,8 @@ pub fn line_edit<A: Axis>(
     ensures only { IsOkUnless result NoMemory }
 {
     let opposite = edit.opposite();
-    let edited = edited_by(workbook, sheet_id, edit, &opposite);
-    let (sheets, cells) = followed_with_kept(alloc, &edited, workbook.worksheets())?;
-    let followed = workbook.with_worksheets(sheets)?;
-    let kept = kept_lines(alloc, &edited, workbook, cells)?;
-    Ok((followed, kept))
+    let route = book_route(workbook, sheet_id, edit, &opposite);
+    // For the proof: the route is a way.
+    route.is_way();
+    carried_with_lines(alloc, &route, workbook)
 }

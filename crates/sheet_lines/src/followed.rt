@@ -1,23 +1,22 @@
-ghost use Rattle.std.specs.Prelude.{◌≡◌, ◌==◌, map, IfOk, IsOkUnless};
+ghost use Rattle.std.specs.Prelude.{◌≡◌, ◌==◌, IfOk, IsOkUnless};
 ghost use Rattle.std.specs.Bool.{then_some};
 ghost use Rattle.std.specs.List.{AllByRecursion};
 ghost use Rattle.std.specs.Option.{option_or};
 ghost use Rattle.base_values.specs.declared.EditError.TheVariants.{NoMemory};
 ghost use Rattle.base_maps.specs.Carried.{lost_map};
 ghost use Rattle.base_maps.specs.Tagged.{put_under};
-ghost use Rattle.line_edits.specs.Edit.{IsValid, opposite_of};
+ghost use Rattle.line_edits.specs.Edit.{IsValid};
 ghost use Rattle.line_map.specs.Attributes.{lines_carried};
 ghost use Rattle.line_routes.specs.Way.{place_goes, way};
 ghost use Rattle.sheet_grid.specs.contracts.line_attr.LineAttrPartialEq.TheImpl as attribute;
 ghost use Rattle.sheet_grid.specs.CanonicalCell.{CanonicalCells};
-ghost use Rattle.sheet_lines.specs.Followed.{way_on, sheet_followed, book_followed};
+ghost use Rattle.sheet_lines.specs.Followed.{way_on, sheet_followed, sheets_followed, book_carried, book_followed};
 ghost use Rattle.sheet_lines.specs.Kept.{trees_kept, first_lost, formulas_kept};
 ghost use Rattle.sheet_lines.specs.CanonicalNumbers.{AreCanonicalFormulas};
-ghost use Rattle.sheet_lines.specs.Sheets.{sheet_of, name_of, IsPlacedSheet, IsPlacedBook};
+ghost use Rattle.sheet_lines.specs.Sheets.{IsPlacedSheet, IsPlacedBook};
 
-use crate::edited_sheet::EditedSheet;
 use crate::inside::places_inside;
-use crate::sheets::{name_of, route_on};
+use crate::sheets::{book_route, route_on};
 use base_axis::{Axis, AxisMap};
 use base_maps::{PositionKeys, PositionMap, SheetPlaceMap};
 use base_shared::Shared;
@@ -25,9 +24,8 @@ use base_values::{EditError, Items, PlaceMap};
 use formula_tree::Node;
 use line_map::{Follower, KeptMap, LineEdit, LineMap, Route, carried_with_kept};
 use rule_lines::carried_rules;
-use sheet_grid::{Cell, LineAttr, Workbook, Worksheet};
+use sheet_grid::{Cell, LineAttr, SheetEntries, Workbook, Worksheet};
 use std::alloc::Global;
-use std::marker::PhantomData;
 
 /// What is kept of the cells of a sheet.
 type KeptCells = KeptMap<
@@ -77,81 +75,85 @@ fn followed_with<A: Axis, M: LineMap<A>>(
 {
     // For the proof: what lies inside.
     places_inside(sheet.link_map());
-    let links = sheet.link_map().carry(alloc, route)?;
-    let rows = lines_followed(alloc, route, sheet.row_map())?;
-    let columns = lines_followed(alloc, route, sheet.column_map())?;
-    let merges = sheet.merge_list().carry(alloc, route)?;
-    let formattings = carried_rules(alloc, route, sheet.conditional_formatting())?;
-    sheet.with_entries(cells, links, rows, columns, merges, formattings)
+    let entries = SheetEntries {
+        cells,
+        links: sheet.link_map().carry(alloc, route)?,
+        rows: lines_followed(alloc, route, sheet.row_map())?,
+        columns: lines_followed(alloc, route, sheet.column_map())?,
+        merges: sheet.merge_list().carry(alloc, route)?,
+        formattings: carried_rules(alloc, route, sheet.conditional_formatting())?,
+    };
+    sheet.with_entries(entries)
 }
 
-/// A sheet along the map: each part of it is carried along.
+/// A sheet along the way of the edited one: each part of it is carried along.
 fn followed_sheet<A: Axis, M: LineMap<A>>(
     alloc: Global,
-    edited: &EditedSheet<'_, A, M>,
+    route: &Route<'_, A, M>,
     sheet: &Worksheet,
 ) -> Result<Worksheet, EditError>
     requires { IsPlacedSheet sheet.now }
-    ensures sheet { IfOk result (λ followed. followed ≡ sheet_followed (way_on edited.now sheet.now) sheet.now) }
+    ensures sheet { IfOk result (λ followed. followed ≡ sheet_followed (way_on (way route.now) sheet.now) sheet.now) }
     ensures only { IsOkUnless result NoMemory }
 {
-    let (route, map) = (route_on(edited, sheet), sheet.cell_map());
+    let (there, map) = (route_on(route, sheet), sheet.cell_map());
     // For the proof: what lies inside.
     places_inside(map);
-    let cells = map.carry(alloc, &route)?;
-    followed_with(alloc, &route, sheet, cells)
+    let cells = map.carry(alloc, &there)?;
+    followed_with(alloc, &there, sheet, cells)
 }
 
-/// A sheet along the map, and what is kept of its cells, in one walk over them.
+/// A sheet along the way of the edited one, and what is kept of its cells, in one walk over them.
 fn followed_and_kept<A: Axis, M: LineMap<A>>(
     alloc: Global,
-    edited: &EditedSheet<'_, A, M>,
+    route: &Route<'_, A, M>,
     sheet: &Worksheet,
 ) -> Result<(Worksheet, KeptCells), EditError>
     requires { IsPlacedSheet sheet.now }
-    ensures sheet { IfOk result (λ both. both.0 ≡ sheet_followed (way_on edited.now sheet.now) sheet.now) }
-    ensures lost { IfOk result (λ both. both.1.lost ≡ lost_map (place_goes (way_on edited.now sheet.now)) sheet.now.cells) }
-    ensures trees { IfOk result (λ both. both.1.parts ≡ trees_kept A.along (M.moves edited.now.map.now) edited.now.id edited.now.name.now sheet.now) }
+    ensures sheet { IfOk result (λ both. both.0 ≡ sheet_followed (way_on (way route.now) sheet.now) sheet.now) }
+    ensures lost { IfOk result (λ both. both.1.lost ≡ lost_map (place_goes (way_on (way route.now) sheet.now)) sheet.now.cells) }
+    ensures trees { IfOk result (λ both. both.1.parts ≡ trees_kept (way route.now) sheet.now) }
     ensures numbers { IfOk result (λ both. AreCanonicalFormulas both.1.parts) }
     ensures only { IsOkUnless result NoMemory }
 {
-    let (route, map) = (route_on(edited, sheet), sheet.cell_map());
+    let (there, map) = (route_on(route, sheet), sheet.cell_map());
     // For the proof: what lies inside.
     places_inside(map);
-    let (cells, kept) = carried_with_kept(alloc, &route, map)?;
-    let followed = followed_with(alloc, &route, sheet, cells)?;
+    let (cells, kept) = carried_with_kept(alloc, &there, map)?;
+    let followed = followed_with(alloc, &there, sheet, cells)?;
     Ok((followed, kept))
 }
 
 /// What is kept of the cells of some sheets, and what of one sheet more.
 fn with_sheet<A: Axis, M: LineMap<A>>(
-    edited: &EditedSheet<'_, A, M>,
+    route: &Route<'_, A, M>,
     kept: KeptOfCells,
     sheet: &Worksheet,
     more: KeptCells,
 ) -> Result<KeptOfCells, EditError>
-    ensures lost { IfOk result (λ all. all.lost ≡ option_or kept.lost (then_some (sheet.now.id == edited.now.id) more.lost)) }
+    ensures lost { IfOk result (λ all. all.lost ≡ option_or kept.lost (then_some (sheet.now.id == (way route.now).sheet) more.lost)) }
     ensures formulas { IfOk result (λ all. all.formulas ≡ put_under sheet.now.id more.parts kept.formulas) }
     ensures only { IsOkUnless result NoMemory }
 {
     let (id, mut formulas) = (sheet.get_sheet_id(), kept.formulas);
     formulas.put_under(id, &more.parts)?;
-    let lost = kept.lost.or((id == edited.id).then_some(more.lost));
+    let lost = kept.lost.or((id == route.sheet).then_some(more.lost));
     Ok(KeptOfCells { lost, formulas })
 }
 
-/// The sheets along the map, and what is kept of their cells, in one walk over the cells: the lost
-/// ones of the first sheet with the edited id, and the trees of each sheet's formulas that go
-/// somewhere and that the way back does not give, under the id of the sheet and their places before.
+/// The sheets along the way of the edited one, and what is kept of their cells, in one walk over the
+/// cells: the lost ones of the first sheet with the edited id, and the trees of each sheet's formulas
+/// that go somewhere and that the way back does not give, under the id of the sheet and their places
+/// before.
 pub(crate) fn followed_with_kept<A: Axis, M: LineMap<A>>(
     alloc: Global,
-    edited: &EditedSheet<'_, A, M>,
+    route: &Route<'_, A, M>,
     sheets: &[Worksheet],
 ) -> Result<(Items<Worksheet>, KeptOfCells), EditError>
     requires { AllByRecursion IsPlacedSheet sheets.now }
-    ensures sheets { IfOk result (λ both. both.0 ≡ map (λ sheet. sheet_followed (way_on edited.now sheet) sheet) sheets.now) }
-    ensures lost { IfOk result (λ both. both.1.lost ≡ first_lost A.along (M.moves edited.now.map.now) edited.now.id sheets.now) }
-    ensures formulas { IfOk result (λ both. both.1.formulas ≡ formulas_kept A.along (M.moves edited.now.map.now) edited.now.id edited.now.name.now sheets.now) }
+    ensures sheets { IfOk result (λ both. both.0 ≡ sheets_followed (way route.now) sheets.now) }
+    ensures lost { IfOk result (λ both. both.1.lost ≡ first_lost (way route.now) sheets.now) }
+    ensures formulas { IfOk result (λ both. both.1.formulas ≡ formulas_kept (way route.now) sheets.now) }
     ensures numbers { IfOk result (λ both. AreCanonicalFormulas both.1.formulas) }
     ensures only { IsOkUnless result NoMemory }
 {
@@ -159,8 +161,8 @@ pub(crate) fn followed_with_kept<A: Axis, M: LineMap<A>>(
     let formulas = SheetPlaceMap::new(alloc);
     let mut kept = KeptOfCells { lost, formulas };
     for sheet in sheets {
-        let (followed, more) = followed_and_kept(alloc, edited, sheet)?;
-        kept = with_sheet(edited, kept, sheet, more)?;
+        let (followed, more) = followed_and_kept(alloc, route, sheet)?;
+        kept = with_sheet(route, kept, sheet, more)?;
         output.push(followed)?;
     }
     Ok((output, kept))
@@ -168,40 +170,32 @@ pub(crate) fn followed_with_kept<A: Axis, M: LineMap<A>>(
 
 fn followed_sheets<A: Axis, M: LineMap<A>>(
     alloc: Global,
-    edited: &EditedSheet<'_, A, M>,
+    route: &Route<'_, A, M>,
     sheets: &[Worksheet],
 ) -> Result<Items<Worksheet>, EditError>
     requires { AllByRecursion IsPlacedSheet sheets.now }
-    ensures sheets { IfOk result (λ followed. followed ≡ map (λ sheet. sheet_followed (way_on edited.now sheet) sheet) sheets.now) }
+    ensures sheets { IfOk result (λ followed. followed ≡ sheets_followed (way route.now) sheets.now) }
     ensures only { IsOkUnless result NoMemory }
 {
     let mut output = Items::empty(alloc);
     for sheet in sheets {
-        output.push(followed_sheet(alloc, edited, sheet)?)?;
+        output.push(followed_sheet(alloc, route, sheet)?)?;
     }
     Ok(output)
 }
 
-/// The sheet of an id that is edited, with the edit and its opposite.
-pub(crate) fn edited_by<'e, A: Axis>(
-    workbook: &'e Workbook,
-    id: u32,
-    edit: &'e LineEdit<A>,
-    opposite: &'e LineEdit<A>,
-) -> EditedSheet<'e, A, LineEdit<A>>
-    requires valid { IsValid A.along.last edit.now.kind }
-    requires opposite { opposite.now.kind ≡ opposite_of edit.now.kind }
-    ensures map { result.map.now ≡ edit.now }
-    ensures id { result.id ≡ id }
-    ensures name { result.name.now ≡ name_of (sheet_of workbook.now id) }
+/// The workbook along the way of the edited sheet.
+pub(crate) fn carried_book<A: Axis, M: LineMap<A>>(
+    alloc: Global,
+    route: &Route<'_, A, M>,
+    workbook: &Workbook,
+) -> Result<Workbook, EditError>
+    requires { IsPlacedBook workbook.now }
+    ensures book { IfOk result (λ carried. carried ≡ book_carried (way route.now) workbook.now) }
+    ensures only { IsOkUnless result NoMemory }
 {
-    EditedSheet {
-        map: edit,
-        opposite,
-        id,
-        name: name_of(workbook, id),
-        axis: PhantomData,
-    }
+    let sheets = followed_sheets(alloc, route, workbook.worksheets())?;
+    workbook.with_worksheets(sheets)
 }
 
 /// The workbook whose sheets follow an edit of the sheet of an id, as `line_edit` returns it. The
@@ -220,7 +214,8 @@ pub fn followed_book<A: Axis>(
     ensures only { IsOkUnless result NoMemory }
 {
     let opposite = edit.opposite();
-    let edited = edited_by(workbook, sheet_id, edit, &opposite);
-    let sheets = followed_sheets(alloc, &edited, workbook.worksheets())?;
-    workbook.with_worksheets(sheets)
+    let route = book_route(workbook, sheet_id, edit, &opposite);
+    // For the proof: the route is a way.
+    route.is_way();
+    carried_book(alloc, &route, workbook)
 }

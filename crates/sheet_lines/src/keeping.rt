@@ -1,13 +1,11 @@
-ghost use Rattle.std.specs.Prelude.{◌≡◌, ◌==◌, true, IfOk, IsOkUnless};
+ghost use Rattle.std.specs.Prelude.{◌≡◌, true, IfOk, IsOkUnless};
 ghost use Rattle.base_values.specs.declared.EditError.TheVariants.{NoMemory};
 ghost use Rattle.base_maps.specs.Carried.{lost_map};
 ghost use Rattle.line_map.specs.Attributes.{line_goes_along};
 ghost use Rattle.line_routes.specs.Way.{way};
 ghost use Rattle.sheet_lines.specs.Kept.{lines_of};
 
-use crate::edited_sheet::EditedSheet;
 use crate::inside::places_inside;
-use crate::sheets::route_on;
 use base_axis::{Axis, AxisMap};
 use base_maps::NumberMap;
 use base_values::EditError;
@@ -34,17 +32,16 @@ fn lost_of_lines<A: Axis, B: Axis, M: LineMap<A>>(
 /// What the lines of the edited axis that go nowhere have of their own on the edited sheet.
 pub(crate) fn lost_attributes<A: Axis, M: LineMap<A>>(
     alloc: Global,
-    edited: &EditedSheet<'_, A, M>,
+    route: &Route<'_, A, M>,
     sheet: &Worksheet,
 ) -> Result<NumberMap<LineAttr>, EditError>
-    requires { (sheet.now.id == edited.now.id) ≡ true }
-    ensures lines { IfOk result (λ lost. lost ≡ lost_map (M.moves edited.now.map.now).to (lines_of A.along sheet.now)) }
+    requires { (way route.now).is_edited ≡ true }
+    ensures lines { IfOk result (λ lost. lost ≡ lost_map (way route.now).moves.to (lines_of A.along sheet.now)) }
     ensures only { IsOkUnless result NoMemory }
 {
-    let route = route_on(edited, sheet);
     if A::of(true, false) {
-        lost_of_lines(alloc, &route, sheet.row_map())
+        lost_of_lines(alloc, route, sheet.row_map())
     } else {
-        lost_of_lines(alloc, &route, sheet.column_map())
+        lost_of_lines(alloc, route, sheet.column_map())
     }
 }

@@ -13,7 +13,7 @@ ghost use Rattle.sheet_lines.specs.Back.{book_back};
 ghost use Rattle.sheet_lines.specs.Entries.{CarriesCells, CarriesLines, CarriesLinks, KeepsTree, OfEdited, line_lost};
 ghost use Rattle.sheet_lines.specs.Followed.{book_followed, way_of};
 ghost use Rattle.sheet_lines.specs.Kept.{kept_lines};
-ghost use Rattle.sheet_lines.specs.Sheets.{HasDistinctIds};
+ghost use Rattle.sheet_ids.specs.Ids.{HasDistinctIds};
 
 use base_axis::Axis;
 use line_map::LineEdit;

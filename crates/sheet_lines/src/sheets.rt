@@ -1,65 +1,37 @@
-ghost use Rattle.std.specs.Prelude.{◌≡◌, is_some};
-ghost use Rattle.std.specs.Option.{option_copied};
+ghost use Rattle.std.specs.Prelude.{◌≡◌};
+ghost use Rattle.line_edits.specs.Edit.{IsValid, opposite_of};
 ghost use Rattle.line_routes.specs.Way.{IsWay, way};
-ghost use Rattle.sheet_lines.specs.Followed.{way_on};
-ghost use Rattle.sheet_lines.specs.Sheets.{sheet_of, name_of};
+ghost use Rattle.sheet_lines.specs.Followed.{book_way, way_on};
 
-use crate::edited_sheet::EditedSheet;
 use base_axis::Axis;
-use base_tables::same_by_folding;
-use base_values::Position;
-use line_map::{LineMap, Route};
-use sheet_grid::{Workbook, Worksheet, sheet_at};
-use std::marker::PhantomData;
+use line_map::{LineEdit, LineMap, Route};
+use line_routes::edit_route;
+use sheet_grid::{Workbook, Worksheet};
+use sheet_ids::name_of;
 
-/// The sheet of an id, if there is one.
-pub fn sheet_of(workbook: &Workbook, id: u32) -> Option<&Worksheet>
-    ensures { option_copied result ≡ sheet_of workbook.now id }
+/// The route of an edit of the lines of the sheet of an id.
+pub(crate) fn book_route<'e, A: Axis>(
+    workbook: &'e Workbook,
+    sheet_id: u32,
+    edit: &'e LineEdit<A>,
+    opposite: &'e LineEdit<A>,
+) -> Route<'e, A, LineEdit<A>>
+    requires valid { IsValid A.along.last edit.now.kind }
+    requires opposite { opposite.now.kind ≡ opposite_of edit.now.kind }
+    ensures { way result ≡ book_way A.along edit.now.kind sheet_id workbook.now }
 {
-    match workbook.index_of(id) {
-        Some(index) => sheet_at(workbook.worksheets(), index),
-        None => None,
-    }
+    edit_route(edit, opposite).of_sheet(sheet_id, name_of(workbook, sheet_id))
 }
 
-/// Whether a sheet has that id.
-pub fn has_sheet(workbook: &Workbook, id: u32) -> bool
-    ensures { result ≡ is_some (sheet_of workbook.now id) }
-{
-    sheet_of(workbook, id).is_some()
-}
-
-/// The name of the sheet of an id; it is empty where there is none.
-pub(crate) fn name_of(workbook: &Workbook, id: u32) -> &str
-    ensures { result.now ≡ name_of (sheet_of workbook.now id) }
-{
-    match sheet_of(workbook, id) {
-        Some(sheet) => sheet.get_name(),
-        None => "",
-    }
-}
-
-/// How the map on the lines of an edited sheet meets a sheet.
+/// How what meets the edited sheet so meets a sheet.
 pub(crate) fn route_on<'s, 'a: 's, A: Axis, M: LineMap<A>>(
-    edited: &EditedSheet<'a, A, M>,
+    route: &Route<'a, A, M>,
     sheet: &'s Worksheet,
 ) -> Route<'s, A, M>
-    ensures way { way result ≡ way_on edited.now sheet.now }
+    ensures way { way result ≡ way_on (way route.now) sheet.now }
     ensures is { IsWay (way result) }
 {
-    let (own, first) = (sheet.get_name(), Position { row: 1, column: 1 });
-    let route = Route {
-        map: edited.map,
-        opposite: edited.opposite,
-        brings: true,
-        own,
-        edited: edited.name,
-        is_own: same_by_folding(own, edited.name),
-        is_edited: sheet.get_sheet_id() == edited.id,
-        from: first,
-        to: first,
-        axis: PhantomData,
-    };
-    route.is_way(); // for the proof
-    route
+    let there = route.on(sheet.get_sheet_id(), sheet.get_name());
+    there.is_way(); // for the proof
+    there
 }

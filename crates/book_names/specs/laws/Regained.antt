@@ -18,7 +18,7 @@ use Rattle.base_maps.specs.laws.TaggedIndexes.{get-all_under as get-indexes_unde
 use Rattle.sheet_grid.specs.declared.Cell.{Cell}
 use Rattle.sheet_grid.specs.Sheet.{Sheet}
 use Rattle.sheet_grid.specs.Book.{Book}
-use Rattle.sheet_lines.specs.Sheets.{sheet_of, HasDistinctIds}
+use Rattle.sheet_ids.specs.Ids.{sheet_of, HasDistinctIds}
 use Rattle.book_names.specs.declared.kept_trees.KeptTrees.{KeptTrees}
 use Rattle.book_names.specs.Renaming.{cells_renamed, sheet_renamed, book_renamed, cell_kept, cells_kept, formulas_kept, everywhere, trees_kept, cells_back, sheet_back, book_back}
 use Rattle.book_names.specs.Renaming.{formattings_renamed, own_formattings_kept, formattings_kept, formattings_back}

@@ -17,8 +17,8 @@ use Rattle.sheet_rules.specs.laws.EntryLaws.{both}
 use Rattle.sheet_rules.specs.WellFormed.{are_distinct, ids_of, names_of, are_sheets, stands_inside, have_trees, have_rule_trees, have_attributes, are_frozen, have_rule_parts, IsWellFormed}
 use Rattle.sheet_rules.specs.laws.WellFormedLaws.{well_formed_parts, well_formed_from_parts, distinct_ids_from_well_formed}
 use Rattle.sheet_rules.specs.Occupied.{have_arrays, have_merges, are_hidden_blank}
-use Rattle.sheet_lines.specs.Followed.{way_of, sheet_followed, sheets_followed, book_followed}
-use Rattle.sheet_lines.specs.Sheets.{sheet_of, name_of}
+use Rattle.sheet_lines.specs.Followed.{edited_way, way_of, sheet_followed, sheets_followed, book_followed}
+use Rattle.sheet_ids.specs.Ids.{sheet_of, name_of}
 use Rattle.sheet_actions.specs.Whole.{LeavesWhole, IsAllowed}
 use Rattle.sheet_actions.specs.laws.FollowedShapes.{KeepsRectangles, rectangles_stay}
 use Rattle.sheet_actions.specs.laws.OwnSheets.{each_of_id}
@@ -48,19 +48,19 @@ all_keep f Q h (sheet ∷ sheets) asked kept =
     record { arrays = pass _ _ first.arrays rest.arrays; merges = pass _ _ first.merges rest.merges; hidden = pass _ _ first.hidden rest.hidden }
 
 module _ (a : Along) (m : LineMoves) (id : ℕ) (edited : List ℕ) where
-  same_count : (sheets : List Sheet) → length (sheets_followed a m id edited sheets) ≡ length sheets
+  same_count : (sheets : List Sheet) → length (sheets_followed (edited_way a m id edited) sheets) ≡ length sheets
   same_count [] = refl
   same_count (sheet ∷ sheets) = ap suc (same_count sheets)
 
-  same_ids : (sheets : List Sheet) → ids_of (sheets_followed a m id edited sheets) ≡ ids_of sheets
+  same_ids : (sheets : List Sheet) → ids_of (sheets_followed (edited_way a m id edited) sheets) ≡ ids_of sheets
   same_ids [] = refl
   same_ids (sheet ∷ sheets) = λ i. sheet.id ∷ same_ids sheets i
 
-  same_names : (sheets : List Sheet) → names_of (sheets_followed a m id edited sheets) ≡ names_of sheets
+  same_names : (sheets : List Sheet) → names_of (sheets_followed (edited_way a m id edited) sheets) ≡ names_of sheets
   same_names [] = refl
   same_names (sheet ∷ sheets) = λ i. sheet.name ∷ same_names sheets i
 
-  sheets_stay : (sheets : List Sheet) → are_sheets (sheets_followed a m id edited sheets) ≡ are_sheets sheets
+  sheets_stay : (sheets : List Sheet) → are_sheets (sheets_followed (edited_way a m id edited) sheets) ≡ are_sheets sheets
   unfolding are_sheets
   sheets_stay sheets = λ i.
       nat_lt 0 (same_count sheets i) && are_distinct (λ m n. m == n) (same_ids sheets i) && list_all is_sheet_name (same_names sheets i) && are_distinct same_folded (same_names sheets i)

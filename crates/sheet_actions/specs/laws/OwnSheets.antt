@@ -7,7 +7,7 @@ use Rattle.sheet_grid.specs.Sheet.{Sheet}
 use Rattle.sheet_grid.specs.Book.{Book}
 use Rattle.sheet_rules.specs.WellFormed.{IsWellFormed}
 use Rattle.sheet_rules.specs.laws.WellFormedLaws.{distinct_ids_from_well_formed}
-use Rattle.sheet_lines.specs.Sheets.{sheet_of}
+use Rattle.sheet_ids.specs.Ids.{sheet_of}
 
 abbrev ids : List Sheet → List ℕ
 ids sheets = map (λ (s : Sheet). s.id) sheets

@@ -15,7 +15,7 @@ use Rattle.sheet_grid.specs.Book.{Book, sheet_at}
 use Rattle.line_edits.specs.declared.EditKind.{EditKind}
 use Rattle.line_edits.specs.declared.EditKind.TheVariants.{Insert, Delete, Move}
 use Rattle.line_edits.specs.Edit.{IsValid, is_valid, is_within}
-use Rattle.sheet_lines.specs.Sheets.{sheet_of}
+use Rattle.sheet_ids.specs.Ids.{sheet_of}
 use Rattle.sheet_actions.specs.GreatestLine.{greatest_line}
 use Rattle.sheet_actions.specs.laws.GreatestLaws.{at_least_one}
 use Rattle.sheet_rules.specs.WellFormed.{IsWellFormed}

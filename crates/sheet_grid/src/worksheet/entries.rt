@@ -5,12 +5,14 @@ ghost use Rattle.std.specs.FinMap as fin;
 ghost use Rattle.base_values.specs.Answers.{Returns};
 ghost use Rattle.base_values.specs.declared.EditError.TheVariants.{NoMemory};
 ghost use Rattle.sheet_grid.specs.CanonicalCell.{CanonicalCells};
+ghost use Rattle.sheet_grid.specs.Sheet.{with_entries};
 
 use super::Worksheet;
 use crate::cell::Cell;
 use crate::cell_map::CellMap;
 use crate::line_attr::LineAttr;
 use crate::link::Link;
+use crate::sheet_entries::SheetEntries;
 use base_axis::{AxisMap, ColumnAxis, MergeList, RowAxis};
 use base_shared::Shared;
 use base_values::{EditError, Items, PlaceMap, Position, copy_of};
@@ -75,20 +77,11 @@ impl Worksheet {
         self.columns.keys(self.name.allocator())
     }
 
-    /// A copy of the sheet that holds these in place of its own cells, links, rows, columns, merges
-    /// and conditional rules. The arrays among the cells are found in one pass. `NoMemory` alone is an
-    /// error.
-    pub fn with_entries(
-        &self,
-        cells: PlaceMap<Shared<Cell>>,
-        links: PlaceMap<Link>,
-        rows: AxisMap<RowAxis, LineAttr>,
-        columns: AxisMap<ColumnAxis, LineAttr>,
-        merges: MergeList,
-        formattings: RuleList,
-    ) -> Result<Worksheet, EditError>
-        requires { CanonicalCells cells }
-        ensures sheet { IfOk result (λ sheet. sheet ≡ record self.now { cells = cells; links = links; rows = rows; columns = columns; merges = merges; formattings = formattings }) }
+    /// A copy of the sheet that holds these entries in place of its own. The arrays among the cells
+    /// are found in one pass. `NoMemory` alone is an error.
+    pub fn with_entries(&self, entries: SheetEntries) -> Result<Worksheet, EditError>
+        requires { CanonicalCells entries.cells }
+        ensures sheet { IfOk result (λ sheet. sheet ≡ with_entries self.now entries) }
         ensures only { IsOkUnless result NoMemory }
     {
         let alloc = self.name.allocator();
@@ -100,12 +93,12 @@ impl Worksheet {
             show_grid_lines: self.show_grid_lines,
             frozen_rows: self.frozen_rows,
             frozen_columns: self.frozen_columns,
-            cells: CellMap::from_cells(alloc, cells)?,
-            links,
-            rows,
-            columns,
-            merges,
-            formattings,
+            cells: CellMap::from_cells(alloc, entries.cells)?,
+            links: entries.links,
+            rows: entries.rows,
+            columns: entries.columns,
+            merges: entries.merges,
+            formattings: entries.formattings,
         })
     }
 }

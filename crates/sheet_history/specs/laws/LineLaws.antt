@@ -55,8 +55,8 @@ use Rattle.sheet_rules.specs.laws.EntryLaws.{both}
 use Rattle.sheet_rules.specs.WellFormed.{stands_inside, IsWellFormed}
 use Rattle.sheet_rules.specs.laws.WellFormedLaws.{cells_fit_from_trees, distinct_ids_from_well_formed}
 use Rattle.sheet_lines.specs.declared.KeptLines.{KeptLines}
-use Rattle.sheet_lines.specs.Sheets.{sheet_of, name_of}
-use Rattle.sheet_lines.specs.Followed.{way_of, sheet_followed, book_followed}
+use Rattle.sheet_ids.specs.Ids.{sheet_of, name_of}
+use Rattle.sheet_lines.specs.Followed.{way_of, book_way, sheet_followed, book_followed}
 use Rattle.sheet_lines.specs.Kept.{lines_of, of_sheet, merges_kept, formattings_kept, kept_lines}
 use Rattle.sheet_lines.specs.Back.{book_back}
 use Rattle.sheet_lines.specs.laws.Regained.{book_regained, formulas_at}
@@ -233,7 +233,7 @@ module _ (a : Along) (l : IsAxis a) (e : EditKind) (valid : IsValid a.last e) (i
 
     kept_tree : (key : SheetPlace) (tree : Node) → get kept.formulas key ≡ Some tree → IsOfSheet key tree
     kept_tree key tree h = of_sheet_at key tree (sheet_of book key.sheet) refl
-        (sym (formulas_at a (edit_moves a.last e) id (name_of (sheet_of book id)) book (distinct_ids_from_well_formed book rules) key.sheet key.place) ∙ h)
+        (sym (formulas_at (book_way a e id book) book (distinct_ids_from_well_formed book rules) key.sheet key.place) ∙ h)
 
     of_cell : (key : SheetPlace) (tree : Node) → get kept.formulas key ≡ Some tree → IsOfCell book key tree
     of_cell key tree h =
@@ -278,7 +278,7 @@ module _ (a : Along) (l : IsAxis a) (e : EditKind) (valid : IsValid a.last e) (i
         tree_shallow key (Some tree) is = shallow_where_fits key.place (Formula tree) (cell_tree_fits book rules key tree (of_cell key tree is))
 
         rule_shallow : (index : ℕ) (o : Option Sheet) → sheet_of book id ≡ o →
-            IfSome (get (formattings_kept a (edit_moves a.last e) id (name_of (sheet_of book id)) o) index) (λ formatting. IsTrue (is_shallow_rule formatting))
+            IfSome (get (formattings_kept (book_way a e id book) o) index) (λ formatting. IsTrue (is_shallow_rule formatting))
         rule_shallow index None none = subst (λ o. IfSome o (λ formatting. IsTrue (is_shallow_rule formatting))) (sym (get-empty nat_cmp index)) tt
         rule_shallow index (Some s) there =
             kept_known (λ formatting. IsTrue (is_shallow_rule formatting)) (way_in s) s.formattings (passing_rules is_shallow_rule s.formattings (all_shallow s.formattings (sheet_rules_stand book rules id s there))) index
@@ -312,11 +312,11 @@ module _ (a : Along) (l : IsAxis a) (e : EditKind) (valid : IsValid a.last e) (i
 
           parts : parts_inside kept.formattings ≡ true
           parts =
-              ap (λ o. parts_inside (formattings_kept a (edit_moves a.last e) id (name_of (sheet_of book id)) o)) found
+              ap (λ o. parts_inside (formattings_kept (book_way a e id book) o)) found
               ∙ kept_pass (way_in sheet) sheet.formattings has_parts (have_parts sheet.formattings (sheet_rules_stand book rules id sheet found))
 
           merges : merges_inside kept.merges ≡ true
-          merges = ap (λ o. merges_inside (merges_kept a (edit_moves a.last e) id (name_of (sheet_of book id)) o)) found ∙ part_inside (way_in sheet) sheet.merges (sheet_merges_inside sheet keeps.merges)
+          merges = ap (λ o. merges_inside (merges_kept (book_way a e id book) o)) found ∙ part_inside (way_in sheet) sheet.merges (sheet_merges_inside sheet keeps.merges)
 
       -- each kept conditional rule stands in the later workbook
       kept_rules_stand : formattings_stand kept.formattings (sheet_of later id) ≡ true
@@ -325,8 +325,8 @@ module _ (a : Along) (l : IsAxis a) (e : EditKind) (valid : IsValid a.last e) (i
           let w : Way = way_in sheet in
           let stand = sheet_rules_stand book rules id sheet found in
           ap (formattings_stand kept.formattings) (later_found id sheet found)
-          ∙ ap (λ o. are_there (formattings_kept a (edit_moves a.last e) id (name_of (sheet_of book id)) o) (length (sheet_followed w sheet).formattings)
-          && each_stands (formattings_kept a (edit_moves a.last e) id (name_of (sheet_of book id)) o)) found
+          ∙ ap (λ o. are_there (formattings_kept (book_way a e id book) o) (length (sheet_followed w sheet).formattings)
+          && each_stands (formattings_kept (book_way a e id book) o)) found
           ∙ (λ i. kept_there w sheet.formattings (length (sheet_followed w sheet).formattings) (sym (length-map sheet.formattings (formatting_carried w))) i
           && kept_pass w sheet.formattings rule_changes.may_stand stand i)
 

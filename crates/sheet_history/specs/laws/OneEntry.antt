@@ -7,7 +7,7 @@ use Rattle.std.proofs.lemmas.Map.Views.{tells_apart}
 use Rattle.std.specs.FinMap as fin
 use Rattle.sheet_grid.specs.Sheet.{Sheet}
 use Rattle.sheet_grid.specs.Book.{Book}
-use Rattle.sheet_lines.specs.Sheets.{sheet_of}
+use Rattle.sheet_ids.specs.Ids.{sheet_of}
 use Rattle.sheet_history.specs.Entries.{EntryKey, EntryValue, key_cmp, sheet_id_of, sheet_entry, value_fits, entry_accepted, entry_at, put_entry, accepts}
 use Rattle.sheet_history.specs.Entries.EntryKey.{CellKey, LinkKey, MergesKey, FieldKey, AttrKey, SettingKey}
 use Rattle.sheet_history.specs.Entries.EntryValue.{CellValue, LinkValue, MergesValue, FieldValue, AttrValue, SettingValue}

@@ -9,7 +9,7 @@ use Rattle.base_values.specs.declared.EditError.TheVariants.{DiffRefused}
 use Rattle.base_values.specs.Answers.{Edits, map_ok, ok_or}
 use Rattle.sheet_grid.specs.Sheet.{Sheet}
 use Rattle.sheet_grid.specs.Book.{Book, index_of, sheet_at, with_sheet}
-use Rattle.sheet_lines.specs.Sheets.{sheet_of}
+use Rattle.sheet_ids.specs.Ids.{sheet_of}
 use Rattle.sheet_history.specs.Entries.{EntryKey, EntryValue, setting_of, sheet_id_of, sheet_entry, with_sheet_entry, value_fits, with_changed, entry_found, entry_placed, entry_accepted, entry_at, put_entry, accepts}
 use Rattle.sheet_history.specs.Entries.EntryKey.{FieldKey}
 use Rattle.sheet_history.specs.Entries.EntryValue.{FieldValue}

@@ -9,7 +9,7 @@ use Rattle.base_values.specs.Answers.{Edits, map_ok}
 use Rattle.format_rules.specs.declared.ConditionalFormatting.{ConditionalFormatting}
 use Rattle.sheet_grid.specs.Sheet.{Sheet}
 use Rattle.sheet_grid.specs.Book.{Book, index_of, sheet_at, with_sheet}
-use Rattle.sheet_lines.specs.Sheets.{sheet_of}
+use Rattle.sheet_ids.specs.Ids.{sheet_of}
 use Rattle.rule_edits.specs.declared.RuleChange.{RuleChange}
 use Rattle.rule_edits.specs.RuleChanges.{change_at, change_goes, may_stand, opposite}
 use Rattle.rule_edits.specs.Made.{IsMade}

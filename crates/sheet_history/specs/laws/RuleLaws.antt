@@ -23,7 +23,7 @@ use Rattle.sheet_rules.specs.Occupied.{have_arrays, have_merges, are_hidden_blan
 use Rattle.sheet_rules.specs.SheetNames.{is_sheet_name}
 use Rattle.sheet_rules.specs.WellFormed.{are_distinct, ids_of, names_of, are_sheets, stands_inside, have_trees, have_rule_trees, have_attributes, are_frozen, have_rule_parts, is_row, is_column, IsWellFormed, has_font}
 use Rattle.sheet_rules.specs.laws.WellFormedLaws.{well_formed_parts, well_formed_from_parts, cells_fit_from_trees, have_trees_from_cells_fit}
-use Rattle.sheet_lines.specs.Sheets.{sheet_of}
+use Rattle.sheet_ids.specs.Ids.{sheet_of}
 pub use Rattle.book_sheets.specs.laws.SheetRules.{KeepsSheetRules}
 pub use Rattle.book_names.specs.laws.Stands.{sheet_rules}
 use Rattle.sheet_history.specs.Entries.{EntryKey, EntryValue, cell_stands_at, value_fits, setting_of, sheet_id_of, with_sheet_entry, with_changed, entry_placed, bare_sheet, put_entry}

@@ -26,7 +26,7 @@ use Rattle.sheet_rules.specs.laws.OccupiedLaws.{keeps_arrays, keeps_merges}
 use Rattle.sheet_rules.specs.laws.WellFormedLaws.{cells_fit_from_trees, distinct_ids_from_well_formed}
 use Rattle.sheet_rules.specs.Occupied.{is_merge, have_arrays, have_merges}
 use Rattle.sheet_rules.specs.WellFormed.{have_attributes, is_column, is_column_style, is_row, is_row_style, is_size, is_width, stands_inside, IsWellFormed}
-use Rattle.sheet_lines.specs.Sheets.{sheet_of}
+use Rattle.sheet_ids.specs.Ids.{sheet_of}
 use Rattle.sheet_history.specs.declared.diff.Diff.{Diff}
 use Rattle.sheet_history.specs.declared.diff.LineAxis.{LineAxis}
 use Rattle.sheet_history.specs.declared.diff.LineAxis.TheVariants.{Rows, Columns}

@@ -1,7 +1,8 @@
 -- Going back with what was kept gives the workbook.
-use Rattle.std.proofs.Common.{◌≡◌, ◌⊎◌, inl, inr, ℕ, Bool, true, false, List, [], ◌∷◌, map, Option, Some, None, refl, ap, sym, ◌∙◌}
+use Rattle.std.proofs.Common.{◌≡◌, ◌⊎◌, inl, inr, ℕ, Bool, true, false, List, [], ◌∷◌, Option, Some, None, refl, ap, sym, ◌∙◌}
 use Rattle.std.specs.Prelude.{⊤, ◌==◌, if◌then◌else◌}
 use Rattle.std.specs.List.{filter_map}
+use Rattle.std.specs.Option.{option_map}
 use Rattle.std.specs.Ordering.{nat_cmp}
 use Rattle.std.specs.Cmp.{unsigned_Decides}
 use Rattle.std.specs.FinMap.{FinMap, get}
@@ -25,8 +26,7 @@ use Rattle.sheet_grid.specs.Sheet.{Sheet}
 use Rattle.sheet_grid.specs.Book.{Book}
 use Rattle.line_edits.specs.declared.EditKind.{EditKind}
 use Rattle.line_edits.specs.Edit.{IsValid}
-use Rattle.line_edits.specs.Moves.{LineMoves, edit_moves, place_image}
-use Rattle.line_edits.specs.laws.OneToOne.{edit_one_to_one}
+use Rattle.line_edits.specs.Moves.{place_image}
 use Rattle.line_map.specs.Contents.{cell_carried, cell_part, cell_restored}
 use Rattle.line_map.specs.Maps.{entry_part, places_carried, places_restored}
 use Rattle.line_routes.specs.Merges.{merge_carried, merges_carried, merges_part}
@@ -40,10 +40,11 @@ use Rattle.rule_lines.specs.Rules.{rules_carried, rules_kept, rules_restored}
 use Rattle.rule_lines.specs.laws.FollowLaws.{formatting_elsewhere}
 use Rattle.rule_lines.specs.laws.RuleLaws.{rules_regained}
 use Rattle.sheet_lines.specs.declared.kept.KeptLines.{KeptLines}
-use Rattle.sheet_lines.specs.Back.{lost_along, merges_back, formattings_back, sheet_back, book_back}
-use Rattle.sheet_lines.specs.Followed.{way_of, way_of_edit, sheet_followed, book_followed}
-use Rattle.sheet_lines.specs.Kept.{lines_of, of_sheet, cells_lost, trees_kept, formulas_kept, merges_kept, formattings_kept, kept_lines}
-use Rattle.sheet_lines.specs.Sheets.{sheet_of, name_of, HasDistinctIds}
+use Rattle.sheet_lines.specs.Back.{lost_along, merges_back, formattings_back, sheet_back, sheets_back, book_back}
+use Rattle.sheet_lines.specs.Followed.{way_on, book_way, sheet_followed, sheets_followed, book_followed}
+use Rattle.sheet_lines.specs.Kept.{lines_of, of_sheet, lost_of, trees_kept, formulas_kept, merges_kept, formattings_kept, lines_kept, kept_lines}
+use Rattle.sheet_ids.specs.Ids.{sheet_of, name_of, HasDistinctIds}
+use Rattle.sheet_lines.specs.laws.Stays.{edit_is_way}
 
 -- ---- a sheet
 
@@ -117,68 +118,69 @@ columns_alone a l h = by_axis l.one_of
 -- ---- a workbook
 
 -- the trees that are kept under an id are those of the formulas of its sheet
-pub formulas_at : (a : Along) (m : LineMoves) (id : ℕ) (edited : List ℕ) (book : Book) → HasDistinctIds book → (n : ℕ) (p : Position) →
-    get (formulas_kept a m id edited book.worksheets) (place_on n p) ≡
-    if_there (sheet_of book n) (λ sheet. entry_part place_goes at cell_part (way_of a m id edited sheet) sheet.cells p)
-formulas_at a m id edited book distinct n p = get-all_under (λ sheet. sheet.id) (trees_kept a m id edited) book.worksheets distinct n p
-    ∙ at_sheet (sheet_of book n)
+pub formulas_at : (w : Way) (book : Book) → HasDistinctIds book → (n : ℕ) (p : Position) →
+    get (formulas_kept w book.worksheets) (place_on n p) ≡
+    if_there (sheet_of book n) (λ sheet. entry_part place_goes at cell_part (way_on w sheet) sheet.cells p)
+formulas_at w book distinct n p = get-all_under (λ sheet. sheet.id) (trees_kept w) book.worksheets distinct n p ∙ at_sheet (sheet_of book n)
   where
-    at_sheet : (o : Option Sheet) → if_there o (λ sheet. get (trees_kept a m id edited sheet) p) ≡
-        if_there o (λ sheet. entry_part place_goes at cell_part (way_of a m id edited sheet) sheet.cells p)
+    at_sheet : (o : Option Sheet) → if_there o (λ sheet. get (trees_kept w sheet) p) ≡
+        if_there o (λ sheet. entry_part place_goes at cell_part (way_on w sheet) sheet.cells p)
     at_sheet None = refl
-    at_sheet (Some sheet) = let w : Way = way_of a m id edited sheet in
-        get-parts_map position_cmp position_total exact_positions (place_goes w) (λ p q x. cell_part (at w p q) x) sheet.cells p
+    at_sheet (Some sheet) = get-parts_map position_cmp position_total exact_positions (place_goes (way_on w sheet))
+        (λ p q x. cell_part (at (way_on w sheet) p q) x) sheet.cells p
 
--- the edited sheet keeps its name
-same_name : (a : Along) (m : LineMoves) (id : ℕ) (edited : List ℕ) (n : ℕ) (sheets : List Sheet) →
-    name_of (found_by (λ sheet. sheet.id) n (map (λ sheet. sheet_followed (way_of a m id edited sheet) sheet) sheets)) ≡ name_of
-    (found_by (λ sheet. sheet.id) n sheets)
-same_name a m id edited n [] = refl
-same_name a m id edited n (sheet ∷ sheets) = elim (sheet.id == n) as (λ b. name_of
-    (if b then Some (sheet_followed (way_of a m id edited sheet) sheet) else found_by (λ sheet. sheet.id) n
-    (map (λ sheet. sheet_followed (way_of a m id edited sheet) sheet) sheets)) ≡ name_of (if b then Some sheet else found_by (λ sheet. sheet.id) n sheets))
-    [ true ↦ refl | false ↦ same_name a m id edited n sheets ]
+-- the sheet of an id is found carried along
+pub found_carried : (w : Way) (n : ℕ) (sheets : List Sheet) →
+    found_by (λ sheet. sheet.id) n (sheets_followed w sheets) ≡ option_map (λ sheet. sheet_followed (way_on w sheet) sheet) (found_by (λ sheet. sheet.id) n sheets)
+found_carried w n [] = refl
+found_carried w n (sheet ∷ sheets) = elim (sheet.id == n) as (λ b.
+    (if b then Some (sheet_followed (way_on w sheet) sheet) else found_by (λ sheet. sheet.id) n (sheets_followed w sheets))
+    ≡ option_map (λ sheet. sheet_followed (way_on w sheet) sheet) (if b then Some sheet else found_by (λ sheet. sheet.id) n sheets))
+    [ true ↦ refl | false ↦ found_carried w n sheets ]
 
-module _ (a : Along) (l : IsAxis a) (e : EditKind) (valid : IsValid a.last e) (id : ℕ) (book : Book) (distinct : HasDistinctIds book) where
-  abbrev moves : LineMoves
-  moves = edit_moves a.last e
+-- with its name
+same_name : (w : Way) (o : Option Sheet) → name_of (option_map (λ sheet. sheet_followed (way_on w sheet) sheet) o) ≡ name_of o
+same_name w None = refl
+same_name w (Some sheet) = refl
 
-  abbrev way_to : Sheet → Way
-  way_to sheet = way_of_edit a e id book sheet
-
+-- along the way of the edited sheet
+module _ (w : Way) (is : IsWay w) (book : Book) (distinct : HasDistinctIds book) where
   abbrev kept : KeptLines
-  kept = kept_lines a e id book
+  kept = lines_kept w book
 
-  sheet_regained : (sheet : Sheet) → sheet_of book sheet.id ≡ Some sheet → sheet_back (way_to sheet) kept (sheet_followed (way_to sheet) sheet) ≡ sheet
+  sheet_regained : (sheet : Sheet) → sheet_of book sheet.id ≡ Some sheet →
+      sheet_back (way_on w sheet) kept (sheet_followed (way_on w sheet) sheet) ≡ sheet
   sheet_regained sheet found =
-      let w : Way = way_to sheet in
-      let is : IsWay w = record { axis = l; one_to_one = edit_one_to_one a.last e valid } in
-      let it : (sheet.id == id) ≡ true → sheet_of book id ≡ Some sheet = (λ same. ap (sheet_of book) (sym ((unsigned_Decides sheet.id id).0 same)) ∙ found) in
-      let lines : (sheet.id == id) ≡ true → kept.lines ≡ lost_map moves.to (lines_of a sheet) =
-      (λ same. ap (of_sheet (λ s. lost_map moves.to (lines_of a s))) (it same)) in
+      let v : Way = way_on w sheet in
+      let way : IsWay v = record { axis = is.axis; one_to_one = is.one_to_one } in
+      let it : (sheet.id == w.sheet) ≡ true → sheet_of book w.sheet ≡ Some sheet =
+      (λ same. ap (sheet_of book) (sym ((unsigned_Decides sheet.id w.sheet).0 same)) ∙ found) in
+      let lines : (sheet.id == w.sheet) ≡ true → kept.lines ≡ lost_map w.moves.to (lines_of w.along sheet) =
+      (λ same. ap (of_sheet (λ s. lost_map w.moves.to (lines_of w.along s))) (it same)) in
       λ i. record sheet {
-        cells = cells_regained w is sheet.cells kept.cells (λ p. get kept.formulas (place_on sheet.id p))
-            (λ same. ap (of_sheet (cells_lost a moves)) (it same))
-            (λ p. formulas_at a moves id (name_of (sheet_of book id)) book distinct sheet.id p
-            ∙ ap (λ o. if_there o (λ s. entry_part place_goes at cell_part (way_to s) s.cells p)) found) i;
-        links = links_regained w is sheet.links kept.links (λ same. ap (of_sheet (λ s. lost_map (place_image a moves.to) s.links)) (it same)) i;
-        rows = lines_restore w is rows rows_lawful attribute.ghosts.eq sheet.rows kept.lines (λ h. let along = both_of w.is_edited
-            (is_along a rows) h in lines along.0
-            ∙ ap (λ t. lost_map moves.to (if t then sheet.rows else sheet.columns)) along.1) i;
-        columns = lines_restore w is columns columns_lawful attribute.ghosts.eq sheet.columns kept.lines
-            (λ h. let along = both_of w.is_edited (is_along a columns) h in lines along.0
-            ∙ ap (λ t. lost_map moves.to (if t then sheet.rows else sheet.columns)) (columns_alone a l along.1)) i;
-        merges = merges_regained w sheet.merges kept.merges (λ same. ap (merges_kept a moves id (name_of (sheet_of book id))) (it same)) i;
-        formattings = formattings_regained w sheet.formattings kept.formattings
-            (λ same. ap (formattings_kept a moves id (name_of (sheet_of book id))) (it same)) i;
+        cells = cells_regained v way sheet.cells kept.cells (λ p. get kept.formulas (place_on sheet.id p))
+            (λ same. ap (of_sheet (λ s. lost_of w s.cells)) (it same))
+            (λ p. formulas_at w book distinct sheet.id p ∙ ap (λ o. if_there o (λ s. entry_part place_goes at cell_part (way_on w s) s.cells p)) found) i;
+        links = links_regained v way sheet.links kept.links (λ same. ap (of_sheet (λ s. lost_of w s.links)) (it same)) i;
+        rows = lines_restore v way rows rows_lawful attribute.ghosts.eq sheet.rows kept.lines
+            (λ h. let along = both_of v.is_edited (is_along w.along rows) h in lines along.0
+            ∙ ap (λ t. lost_map w.moves.to (if t then sheet.rows else sheet.columns)) along.1) i;
+        columns = lines_restore v way columns columns_lawful attribute.ghosts.eq sheet.columns kept.lines
+            (λ h. let along = both_of v.is_edited (is_along w.along columns) h in lines along.0
+            ∙ ap (λ t. lost_map w.moves.to (if t then sheet.rows else sheet.columns)) (columns_alone w.along is.axis along.1)) i;
+        merges = merges_regained v sheet.merges kept.merges (λ same. ap (merges_kept w) (it same)) i;
+        formattings = formattings_regained v sheet.formattings kept.formattings (λ same. ap (formattings_kept w) (it same)) i;
       }
 
-  -- going back with what was kept gives the workbook
-  pub book_regained : book_back a e id kept (book_followed a e id book) ≡ book
-  book_regained = λ i. record book {
-    worksheets = (ap (λ name. map (λ sheet. sheet_back (way_of a moves id name sheet) kept sheet) (book_followed a e id book).worksheets)
-        (same_name a moves id (name_of (sheet_of book id)) id book.worksheets)
-        ∙ all_come_back (λ sheet. sheet_of book sheet.id ≡ Some sheet) (λ sheet. sheet_followed (way_to sheet) sheet) (λ sheet. sheet_back
-        (way_to sheet) kept sheet) sheet_regained
-        book.worksheets (all_found (λ sheet. sheet.id) book.worksheets distinct)) i;
-  }
+  pub sheets_regained : sheets_back w kept (sheets_followed w book.worksheets) ≡ book.worksheets
+  sheets_regained = all_come_back (λ sheet. sheet_of book sheet.id ≡ Some sheet) (λ sheet. sheet_followed (way_on w sheet) sheet)
+      (λ sheet. sheet_back (way_on w sheet) kept sheet) sheet_regained book.worksheets (all_found (λ sheet. sheet.id) book.worksheets distinct)
+
+-- going back with what was kept gives the workbook
+pub book_regained : (a : Along) → IsAxis a → (e : EditKind) → IsValid a.last e → (id : ℕ) (book : Book) → HasDistinctIds book →
+    book_back a e id (kept_lines a e id book) (book_followed a e id book) ≡ book
+book_regained a l e valid id book distinct =
+    let w : Way = book_way a e id book in λ i. record book {
+      worksheets = (ap (λ edited. sheets_back (record w { own = edited; edited = edited }) (kept_lines a e id book) (book_followed a e id book).worksheets)
+          (ap name_of (found_carried w id book.worksheets) ∙ same_name w (sheet_of book id)) ∙ sheets_regained w (edit_is_way a l e valid id (name_of (sheet_of book id))) book distinct) i;
+    }

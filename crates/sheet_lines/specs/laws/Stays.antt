@@ -8,7 +8,7 @@ use Rattle.std.specs.Ordering.{int_cmp, nat_cmp}
 use Rattle.std.proofs.lemmas.Map.Lookups.{exact_signed}
 use Rattle.std.specs.FinMap.{FinMap, get}
 use Rattle.base_values.specs.declared.Position.{Position}
-use Rattle.base_values.specs.Places.{IsLine, position_cmp}
+use Rattle.base_values.specs.Places.{IsLine, IsPlace, position_cmp}
 use Rattle.base_values.specs.laws.Places.{position_total, exact_positions}
 use Rattle.base_axis.specs.Along.{Along, IsAxis, rows, columns}
 use Rattle.base_axis.specs.declared.MergedCell.{MergedCell}
@@ -35,23 +35,24 @@ use Rattle.line_edits.specs.Moves.{edit_moves, place_image}
 use Rattle.line_edits.specs.laws.OneToOne.{edit_one_to_one}
 use Rattle.line_map.specs.Attributes.{LinesLie}
 use Rattle.line_map.specs.Contents.{cell_carried, cell_part, cell_restored}
-use Rattle.line_map.specs.Maps.{places_carried, places_parts, places_restored}
-use Rattle.line_routes.specs.Merges.{merges_carried, MergesLie}
+use Rattle.line_map.specs.Maps.{places_carried, places_parts, places_restored, KeysInside}
+use Rattle.line_routes.specs.Merges.{merges_carried, merges_part, MergesLie}
 use Rattle.line_routes.specs.Trees.{following, tree_carried, tree_part}
 use Rattle.line_routes.specs.Way.{Way, IsWay, at, back, place_goes}
 use Rattle.line_map.specs.laws.ContentLaws.{cell_stays}
-use Rattle.line_routes.specs.laws.MergeLaws.{merges_stay}
+use Rattle.line_routes.specs.laws.MergeLaws.{merges_part_fits, merges_stay}
 use Rattle.line_routes.specs.laws.TreeLaws.{tree_restores}
 use Rattle.line_routes.specs.laws.WayLaws.{at_is_way, back_is_way, goes_inverse}
 use Rattle.rule_lines.specs.Canonical.{KeptLie}
 use Rattle.rule_lines.specs.Rules.{rules_restored, RulesLie}
 use Rattle.rule_lines.specs.laws.RuleLaws.{restored_lie, rules_stay}
 use Rattle.sheet_lines.specs.declared.kept.KeptLines.{KeptLines}
-use Rattle.sheet_lines.specs.Back.{lost_along, merges_back, formattings_back, sheet_back, book_back, LieInside, ArePlacedLines}
-use Rattle.sheet_lines.specs.Followed.{way_of, way_of_edit, sheet_followed, book_followed}
-use Rattle.sheet_lines.specs.Kept.{lines_of}
+use Rattle.sheet_lines.specs.Back.{lost_along, merges_back, formattings_back, sheet_back, sheets_back, LieInside, ArePlacedLines}
+use Rattle.sheet_lines.specs.Followed.{edited_way, way_of, way_on, sheet_followed, sheets_followed}
+use Rattle.sheet_lines.specs.Kept.{of_sheet, lines_of, lost_of, merges_kept, lines_kept}
 use Rattle.sheet_lines.specs.CanonicalNumbers.{AreCanonicalFormulas}
-use Rattle.sheet_lines.specs.Sheets.{IsPlacedCell, IsPlacedSheet, IsPlacedBook, sheet_of, name_of}
+use Rattle.sheet_ids.specs.Ids.{sheet_of}
+use Rattle.sheet_lines.specs.Sheets.{IsPlacedCell, IsPlacedSheet}
 
 -- ---- cells
 
@@ -162,42 +163,60 @@ formattings_return w is kept rules h lie = elim w.is_edited as (λ b. RulesLie (
 
 -- ---- workbooks
 
-all_mapped : (P : Sheet → Type 0) (f : Sheet → Sheet) → ((sheet : Sheet) → P sheet → P (f sheet)) → (sheets : List Sheet) → AllByRecursion P sheets →
+pub all_mapped : (P : Sheet → Type 0) (f : Sheet → Sheet) → ((sheet : Sheet) → P sheet → P (f sheet)) → (sheets : List Sheet) → AllByRecursion P sheets →
     AllByRecursion P (map f sheets)
 all_mapped P f step [] all = tt
 all_mapped P f step (sheet ∷ sheets) all = (step sheet all.0, all_mapped P f step sheets all.1)
+
+pub edit_is_way : (a : Along) → IsAxis a → (e : EditKind) → IsValid a.last e → (id : ℕ) (edited : List ℕ) → IsWay (edited_way a (edit_moves a.last e) id edited)
+edit_is_way a l e valid id edited = record { axis = l; one_to_one = edit_one_to_one a.last e valid }
 
 pub way_is : (a : Along) → IsAxis a → (e : EditKind) → IsValid a.last e → (id : ℕ) (edited : List ℕ) (sheet : Sheet) →
     IsWay (way_of a (edit_moves a.last e) id edited sheet)
 way_is a l e valid id edited sheet = record { axis = l; one_to_one = edit_one_to_one a.last e valid }
 
-module _ (a : Along) (l : IsAxis a) (e : EditKind) (valid : IsValid a.last e) (id : ℕ) (book : Book) (placed : IsPlacedBook book) where
-  abbrev way_to : Sheet → Way
-  way_to sheet = way_of_edit a e id book sheet
+-- along the way of the edited sheet
+module _ (w : Way) (is : IsWay w) where
+  pub is_way_on : (sheet : Sheet) → IsWay (way_on w sheet)
+  is_way_on sheet = record { axis = is.axis; one_to_one = is.one_to_one }
 
-  is_way_to : (sheet : Sheet) → IsWay (way_to sheet)
-  is_way_to sheet = way_is a l e valid id (name_of (sheet_of book id)) sheet
+  -- a sheet that follows stays placed
+  pub sheet_placed : (sheet : Sheet) → IsPlacedSheet sheet → IsPlacedSheet (sheet_followed (way_on w sheet) sheet)
+  sheet_placed sheet h = let v : Way = way_on w sheet in record {
+    cells = each_found position_cmp IsPlacedCell (places_carried cell_carried v sheet.cells)
+        (followed_are v (is_way_on sheet) IsPlacedCell (λ place tree. is_placed place tree ≡ true) places_stay sheet.cells
+        (each_from position_cmp IsPlacedCell sheet.cells h.cells));
+    merges = merges_stay v (is_way_on sheet) sheet.merges h.merges;
+    formattings = rules_stay v (is_way_on sheet) sheet.formattings h.formattings;
+  }
 
-  -- a book that follows stays placed
-  pub followed_placed : IsPlacedBook (book_followed a e id book)
-  followed_placed = all_mapped IsPlacedSheet (λ sheet. sheet_followed (way_to sheet) sheet)
-      (λ sheet h. let w : Way = way_to sheet in record {
-        cells = each_found position_cmp IsPlacedCell (places_carried cell_carried w sheet.cells)
-            (followed_are w (is_way_to sheet) IsPlacedCell (λ place tree. is_placed place tree ≡ true) places_stay sheet.cells
-            (each_from position_cmp IsPlacedCell sheet.cells h.cells));
-        merges = merges_stay w (is_way_to sheet) sheet.merges h.merges;
-        formattings = rules_stay w (is_way_to sheet) sheet.formattings h.formattings;
-      }) book.worksheets placed
+  pub followed_placed : (sheets : List Sheet) → AllByRecursion IsPlacedSheet sheets → AllByRecursion IsPlacedSheet (sheets_followed w sheets)
+  followed_placed = all_mapped IsPlacedSheet (λ sheet. sheet_followed (way_on w sheet) sheet) sheet_placed
 
-  -- so does one that is taken back, with cells, trees and conditional rules that may stand where they stood
-  pub back_placed : (kept : KeptLines) → LieInside a kept → ArePlacedLines kept → IsPlacedBook (book_back a e id kept book)
-  back_placed kept inside lines = all_mapped IsPlacedSheet (λ sheet. sheet_back (way_to sheet) kept sheet)
-      (λ sheet h. let w : Way = way_to sheet in record {
-        cells = each_found position_cmp IsPlacedCell (sheet_back w kept sheet).cells
-            (back_are w (is_way_to sheet) IsPlacedCell (λ place tree. is_placed place tree ≡ true) places_stay sheet.cells
+  -- what is kept of the edited sheet lies inside
+  pub kept_inside : (book : Book) (sheet : Sheet) → sheet_of book w.sheet ≡ Some sheet → KeysInside sheet.cells → KeysInside sheet.links →
+      LinesLie rows sheet.rows → LinesLie columns sheet.columns → MergesLie sheet.merges → LieInside w.along (lines_kept w book)
+  kept_inside book sheet found cells links in_rows in_columns merges = record {
+    cells = subst (λ o. KeysInside (of_sheet (λ s. lost_of w s.cells) o)) (sym found)
+        (keys_lost position_cmp position_total exact_positions IsPlace (place_image w.along w.moves.to) sheet.cells cells);
+    links = subst (λ o. KeysInside (of_sheet (λ s. lost_of w s.links) o)) (sym found)
+        (keys_lost position_cmp position_total exact_positions IsPlace (place_image w.along w.moves.to) sheet.links links);
+    lines = subst (λ o. LinesLie w.along (of_sheet (λ s. lost_map w.moves.to (lines_of w.along s)) o)) (sym found)
+        (lost_lines_lie w.along is.axis sheet in_rows in_columns w.moves.to);
+    merges = subst (λ o. IfSome (merges_kept w o) MergesLie) (sym found)
+        (holds_of MergesLie (merges_part (way_on w sheet) sheet.merges) (merges_part_fits (way_on w sheet) (is_way_on sheet) sheet.merges merges));
+  }
+
+  -- so do those that are taken back, with cells, trees and conditional rules that may stand where they stood
+  pub back_placed : (kept : KeptLines) → LieInside w.along kept → ArePlacedLines kept → (sheets : List Sheet) → AllByRecursion IsPlacedSheet sheets →
+      AllByRecursion IsPlacedSheet (sheets_back w kept sheets)
+  back_placed kept inside lines = all_mapped IsPlacedSheet (λ sheet. sheet_back (way_on w sheet) kept sheet)
+      (λ sheet h. let v : Way = way_on w sheet in record {
+        cells = each_found position_cmp IsPlacedCell (sheet_back v kept sheet).cells
+            (back_are v (is_way_on sheet) IsPlacedCell (λ place tree. is_placed place tree ≡ true) places_stay sheet.cells
             (each_from position_cmp IsPlacedCell sheet.cells h.cells)
             kept.cells (λ place. get kept.formulas (place_on sheet.id place)) (each_from position_cmp IsPlacedCell kept.cells lines.cells)
             (λ p. holds_of (λ tree. is_placed p tree ≡ true) (get kept.formulas (place_on sheet.id p)) (λ tree. lines.formulas (place_on sheet.id p) tree)));
-        merges = merges_return w (is_way_to sheet) kept.merges sheet.merges inside.merges h.merges;
-        formattings = formattings_return w (is_way_to sheet) kept.formattings sheet.formattings lines.formattings h.formattings;
-      }) book.worksheets placed
+        merges = merges_return v (is_way_on sheet) kept.merges sheet.merges inside.merges h.merges;
+        formattings = formattings_return v (is_way_on sheet) kept.formattings sheet.formattings lines.formattings h.formattings;
+      })

@@ -2,7 +2,7 @@ use Rattle.std.proofs.Common.{◌≡◌, ◌∙◌, Some, ap, subst, sym}
 use Rattle.std.specs.Prelude.{IsTrue, is_some}
 use Rattle.base_values.specs.declared.EditError.TheVariants.{NoMemory}
 use Rattle.line_edits.specs.Edit.{IsValid}
-use Rattle.sheet_lines.specs.Sheets.{sheet_of}
+use Rattle.sheet_ids.specs.Ids.{sheet_of}
 use Rattle.sheet_actions.specs.Whole.{IsAllowed}
 use Rattle.sheet_actions.specs.laws.PlannedLaws.{valid_unrefused, sheet_there, refusal_sure, planned_allowed}
 use Rattle.sheet_actions.proofs.plan.planned.Goals as goal

@@ -1,19 +1,15 @@
-use Rattle.std.proofs.Common.{None, ap, subst, sym, ◌∙◌}
+use Rattle.std.proofs.Common.{ap, subst, sym, ◌∙◌}
 use Rattle.std.proofs.lemmas.Result.{IfOk-weaker}
 use Rattle.std.specs.Cmp.{int_cmp_total}
-use Rattle.std.specs.FinMap.{FinMap, int_cmp-IsAntisymmetric}
-use Rattle.std.specs.Ordering.{int_cmp}
+use Rattle.std.specs.FinMap.{int_cmp-IsAntisymmetric}
 use Rattle.base_values.specs.Places.{IsLine}
-use Rattle.base_maps.specs.Carried.{overlaid}
+use Rattle.base_maps.specs.Carried.{moved_map, overlaid}
 use Rattle.line_map.specs.Attributes.{line_goes}
 use Rattle.line_map.specs.Keys.{KeysAre}
-use Rattle.line_map.specs.Maps.{entries_restored}
-use Rattle.line_map.specs.declared.contents.Nothing.{Nothing}
-use Rattle.line_map.specs.laws.AttributeLaws.{lines_back_are, same_last}
+use Rattle.line_map.specs.laws.AttributeLaws.{same_last}
 use Rattle.line_map.specs.laws.HeirLaws.{both_of}
 use Rattle.line_map.specs.laws.UnderLaws.{rekeyed_own}
-use Rattle.line_routes.specs.Way.{is_along, way}
-use Rattle.sheet_grid.specs.declared.LineAttr.{LineAttr}
+use Rattle.line_routes.specs.Way.{back, is_along, way}
 use Rattle.sheet_lines.specs.Back.{lost_along}
 use Rattle.sheet_lines.proofs.back.lines_back.Goals as goal
 
@@ -30,9 +26,6 @@ pub returns-clause-lines : goal.returns-clause-lines
 returns-clause-lines g c =
     let w = way c.args.route.now in
     let kept = c.args.kept.now.lines in
-    let restored : FinMap int_cmp LineAttr = entries_restored (line_goes g.B.Axis.along) (λ v _ _. v) {P = Nothing} (λ _ x. x) (λ _ x _. x) w
-    (λ _. None) c.args.lines.now in
-    IfOk-weaker c.map_back.result _ _ (λ output is. is
-    ∙ ap (λ l. overlaid l restored) (rekeyed_own int_cmp_total int_cmp-IsAntisymmetric (lost_along c.goes_along-along.result kept))
-    ∙ ap (λ b. overlaid (lost_along b kept) restored) c.goes_along-along.ensures
-    ∙ lines_back_are w c.is_way.ensures g.B.Axis.along Nothing c.args.lines.now kept) c.map_back.ensures.map
+    IfOk-weaker c.map_back.result _ _ (λ output is. is ∙ ap (λ l. overlaid l (moved_map (line_goes g.B.Axis.along (back w)) (line_goes g.B.Axis.along w)
+    c.args.lines.now)) (rekeyed_own int_cmp_total int_cmp-IsAntisymmetric (lost_along c.goes_along-along.result kept)
+    ∙ ap (λ along. lost_along along kept) c.goes_along-along.ensures)) c.map_back.ensures.map

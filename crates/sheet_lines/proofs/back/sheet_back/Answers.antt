@@ -23,23 +23,23 @@ laid_own along lost m = ap (λ l. overlaid l m) (rekeyed_own position_total exac
 
 pub with_entries-requires : goal.with_entries-requires
 with_entries-requires g c =
-    subst CanonicalCells (sym (c.in_ok-cells.ensures.map ∙ laid_own c.route_on-route.result.is_edited c.args.kept.now.cells _))
-    (back_are (way c.route_on-route.result) c.route_on-route.ensures.is (λ _. IsCanonicalCell)
+    subst CanonicalCells (sym (c.in_ok-map_back.ensures.map ∙ laid_own c.route_on.result.is_edited c.args.kept.now.cells _))
+    (back_are (way c.route_on.result) c.route_on.ensures.is (λ _. IsCanonicalCell)
     (λ _. HasCanonicalNumbers) numbers_stay c.cell_map-cells.result.now c.cell_map-cells.ensures.canonical
     c.args.kept.now.cells _ c.requires.numbers.cells (λ p. c.requires.numbers.formulas (place_on c.get_sheet_id-id.result p)))
 
 pub returns-clause-sheet : goal.returns-clause-sheet
 returns-clause-sheet g c =
     let kept = c.args.kept.now in
-    let to = c.route_on-route.ensures.way in
+    let to = c.route_on.ensures.way in
     IfOk-weaker c.with_entries.result _ _ (λ output is. is ∙ (λ i. record c.args.sheet.now {
-      cells = (c.in_ok-cells.ensures.map ∙ laid_own c.route_on-route.result.is_edited kept.cells _ ∙ (λ j. overlaid (lost_along (to j).is_edited kept.cells)
+      cells = (c.in_ok-map_back.ensures.map ∙ laid_own c.route_on.result.is_edited kept.cells _ ∙ (λ j. overlaid (lost_along (to j).is_edited kept.cells)
           (places_restored cell_carried (λ _ cell tree. cell_restored cell tree) (to j)
           (λ place. get kept.formulas (place_on (c.get_sheet_id-id.ensures j) place)) (c.cell_map-cells.ensures.map j)))) i;
-      links = (c.in_ok-links.ensures.map ∙ laid_own c.route_on-route.result.is_edited kept.links _ ∙ (λ j. overlaid (lost_along (to j).is_edited kept.links)
+      links = (c.in_ok-map_back-2.ensures.map ∙ laid_own c.route_on.result.is_edited kept.links _ ∙ (λ j. overlaid (lost_along (to j).is_edited kept.links)
           (moved_map (place_goes (back (to j))) (place_goes (to j)) (c.link_map-links.ensures j)))) i;
-      rows = (c.in_ok-rows.ensures.lines ∙ (λ j. lines_restored rows (to j) (c.row_map.ensures j) kept.lines)) i;
-      columns = (c.in_ok-columns.ensures.lines ∙ (λ j. lines_restored columns (to j) (c.column_map.ensures j) kept.lines)) i;
-      merges = (c.in_ok-merges.ensures.merges ∙ (λ j. merges_back (to j) kept.merges c.args.sheet.now.merges)) i;
-      formattings = (c.in_ok-formattings.ensures.formattings ∙ (λ j. formattings_back (to j) kept.formattings c.args.sheet.now.formattings)) i;
+      rows = (c.in_ok-lines_back.ensures.lines ∙ (λ j. lines_restored rows (to j) (c.row_map.ensures j) kept.lines)) i;
+      columns = (c.in_ok-lines_back-2.ensures.lines ∙ (λ j. lines_restored columns (to j) (c.column_map.ensures j) kept.lines)) i;
+      merges = (c.in_ok-merges_back.ensures.merges ∙ (λ j. merges_back (to j) kept.merges c.args.sheet.now.merges)) i;
+      formattings = (c.in_ok-formattings_back.ensures.formattings ∙ (λ j. formattings_back (to j) kept.formattings c.args.sheet.now.formattings)) i;
     })) c.with_entries.ensures.sheet

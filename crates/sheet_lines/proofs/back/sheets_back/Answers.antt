@@ -2,6 +2,7 @@ use Rattle.std.proofs.Common.{[], ◌∷◌, ◌++◌, ◌<◌, length, map, tak
 use Rattle.std.proofs.lemmas.List.{map_more}
 use Rattle.sheet_grid.specs.Sheet.{Sheet}
 use Rattle.sheet_lines.specs.Back.{sheet_back}
+use Rattle.line_routes.specs.Way.{way}
 use Rattle.sheet_lines.specs.Followed.{way_on}
 use Rattle.sheet_lines.proofs.back.sheets_back.Goals as goal
 
@@ -9,7 +10,7 @@ pub loop-sheet-preserved : goal.loop-sheet-preserved
 loop-sheet-preserved g c =
     let sheets = c.args.sheets.now in
     let i = c.loop-sheet.sheet-index in
-    let back : Sheet → Sheet = λ sheet. sheet_back (way_on c.args.edited.now sheet) c.args.kept.now sheet in
+    let back : Sheet → Sheet = λ sheet. sheet_back (way_on (way c.args.route.now) sheet) c.args.kept.now sheet in
     let within : i < length sheets = omega arith in
     c.in_ok-push.ensures.ok
     ∙ (λ j. c.loop-sheet.invariant j ++ c.in_ok-sheet_back.ensures.sheet j ∷ [])

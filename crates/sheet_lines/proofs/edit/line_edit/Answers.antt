@@ -1,20 +1,24 @@
-use Rattle.std.proofs.Common.{map, subst, sym, ◌∙◌}
-use Rattle.line_edits.specs.Moves.{edit_moves}
-use Rattle.sheet_lines.specs.Followed.{way_of, sheet_followed}
+use Rattle.std.proofs.Common.{◌≡◌, ap, subst, sym, ◌∙◌}
+use Rattle.std.proofs.lemmas.Result.{IfOk-weaker}
+use Rattle.line_routes.specs.Way.{IsWay, way}
+use Rattle.sheet_lines.specs.Followed.{book_carried}
+use Rattle.sheet_lines.specs.Kept.{kept_lines, lines_kept}
 use Rattle.sheet_lines.specs.Sheets.{IsPlacedBook}
 use Rattle.sheet_lines.specs.laws.Stays.{followed_placed}
 use Rattle.sheet_lines.proofs.edit.line_edit.Goals as goal
 
 pub returns-clause-workbook : goal.returns-clause-workbook
-returns-clause-workbook g c =
-    let a = g.A.Axis.along in
-    let by = c.edited_by-edited.ensures in
-    c.in_ok-followed.ensures.book ∙ (λ i. record c.args.workbook.now {
-      worksheets = (c.in_ok-sheets.ensures.sheets ∙ (λ j. map (λ sheet. sheet_followed
-          (way_of a (edit_moves a.last (by.map j).kind) (by.id j) (by.name j) sheet) sheet) (c.worksheets.ensures j))) i;
-    })
+returns-clause-workbook g c = IfOk-weaker c.carried_with_lines.result _ _
+    (λ output is. is ∙ (λ i. book_carried (c.book_route-route.ensures i) c.args.workbook.now)) c.carried_with_lines.ensures.workbook
 
 pub returns-clause-placed : goal.returns-clause-placed
-returns-clause-placed g c =
-    subst IsPlacedBook (sym (returns-clause-workbook g c))
-    (followed_placed g.A.Axis.along g.met.A.Axis.lawful c.args.edit.now.kind c.requires.valid c.args.sheet_id c.args.workbook.now c.requires.placed)
+returns-clause-placed g c = IfOk-weaker c.carried_with_lines.result _ _
+    (λ output is. subst IsPlacedBook (sym is) (followed_placed _ (subst IsWay c.book_route-route.ensures c.is_way.ensures) c.args.workbook.now.worksheets
+    c.requires.placed)) (returns-clause-workbook g c)
+
+pub returns-clause-kept : goal.returns-clause-kept
+returns-clause-kept g c =
+    let book = c.args.workbook.now in
+    IfOk-weaker c.carried_with_lines.result (λ output. output.1 ≡ lines_kept (way c.book_route-route.result) book)
+    (λ output. output.1 ≡ kept_lines g.A.Axis.along c.args.edit.now.kind c.args.sheet_id book)
+    (λ output is. is ∙ ap (λ w. lines_kept w book) c.book_route-route.ensures) c.carried_with_lines.ensures.kept

@@ -12,19 +12,19 @@ use Rattle.sheet_lines.proofs.followed.followed_and_kept.Goals as goal
 
 pub followed_with-requires-clause-canonical : goal.followed_with-requires-clause-canonical
 followed_with-requires-clause-canonical g c = subst CanonicalCells (sym c.in_ok-cells.ensures.carried)
-    (followed_are (way c.route_on-route.result) c.route_on-route.ensures.is (λ _. IsCanonicalCell)
+    (followed_are (way c.route_on-there.result) c.route_on-there.ensures.is (λ _. IsCanonicalCell)
     (λ _. HasCanonicalNumbers) numbers_stay c.cell_map-map.result.now c.cell_map-map.ensures.canonical)
 
 pub returns-clause-lost : goal.returns-clause-lost
 returns-clause-lost g c =
     sym (rekeyed_own position_total exact_positions _) ∙ c.in_ok-cells.ensures.lost
-    ∙ (λ j. lost_map (place_goes (c.route_on-route.ensures.way j)) (c.cell_map-map.ensures.map j))
+    ∙ (λ j. lost_map (place_goes (c.route_on-there.ensures.way j)) (c.cell_map-map.ensures.map j))
 
 pub returns-clause-trees : goal.returns-clause-trees
 returns-clause-trees g c =
     sym (rekeyed_own position_total exact_positions _) ∙ c.in_ok-cells.ensures.parts
-    ∙ (λ j. places_parts cell_part (c.route_on-route.ensures.way j) (c.cell_map-map.ensures.map j))
+    ∙ (λ j. places_parts cell_part (c.route_on-there.ensures.way j) (c.cell_map-map.ensures.map j))
 
 pub returns-clause-numbers : goal.returns-clause-numbers
 returns-clause-numbers g c = subst AreCanonicalFormulas (sym (sym (rekeyed_own position_total exact_positions _) ∙ c.in_ok-cells.ensures.parts))
-    (parts_kept (way c.route_on-route.result) c.route_on-route.ensures.is c.cell_map-map.result.now c.cell_map-map.ensures.canonical)
+    (parts_kept (way c.route_on-there.result) c.route_on-there.ensures.is c.cell_map-map.result.now c.cell_map-map.ensures.canonical)

@@ -1,24 +1,16 @@
-use Rattle.std.proofs.Common.{map, subst, sym, ◌∙◌}
+use Rattle.std.proofs.Common.{subst, sym, ◌∙◌}
 use Rattle.std.proofs.lemmas.Result.{IfOk-weaker}
-use Rattle.line_edits.specs.Moves.{edit_moves}
-use Rattle.sheet_lines.specs.Followed.{way_of, sheet_followed}
+use Rattle.line_routes.specs.Way.{IsWay}
+use Rattle.sheet_lines.specs.Followed.{book_carried}
 use Rattle.sheet_lines.specs.Sheets.{IsPlacedBook}
 use Rattle.sheet_lines.specs.laws.Stays.{followed_placed}
 use Rattle.sheet_lines.proofs.followed.followed_book.Goals as goal
 
 pub returns-clause-book : goal.returns-clause-book
-returns-clause-book g c =
-    let a = g.A.Axis.along in
-    let by = c.edited_by-edited.ensures in
-    IfOk-weaker c.with_worksheets.result _ _ (λ book is. is ∙ (λ i. record c.args.workbook.now {
-      worksheets = (c.in_ok-sheets.ensures.sheets ∙ (λ j. map (λ sheet. sheet_followed
-          (way_of a (edit_moves a.last (by.map j).kind) (by.id j) (by.name j) sheet) sheet) (c.worksheets.ensures j))) i;
-    })) c.with_worksheets.ensures.book
+returns-clause-book g c = IfOk-weaker c.carried_book.result _ _
+    (λ book is. is ∙ (λ i. book_carried (c.book_route-route.ensures i) c.args.workbook.now)) c.carried_book.ensures.book
 
 pub returns-clause-placed : goal.returns-clause-placed
-returns-clause-placed g c =
-    IfOk-weaker c.with_worksheets.result _ _
-    (λ book is.
-    subst IsPlacedBook (sym is)
-    (followed_placed g.A.Axis.along g.met.A.Axis.lawful c.args.edit.now.kind c.requires.valid c.args.sheet_id c.args.workbook.now c.requires.placed))
-    (returns-clause-book g c)
+returns-clause-placed g c = IfOk-weaker c.carried_book.result _ _
+    (λ book is. subst IsPlacedBook (sym is) (followed_placed _ (subst IsWay c.book_route-route.ensures c.is_way.ensures) c.args.workbook.now.worksheets
+    c.requires.placed)) (returns-clause-book g c)

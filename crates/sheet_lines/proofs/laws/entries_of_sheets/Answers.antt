@@ -23,9 +23,9 @@ use Rattle.rule_lines.specs.laws.RuleLaws.{rules_are_kept}
 use Rattle.sheet_grid.specs.Book.{Book}
 use Rattle.sheet_grid.specs.Sheet.{Sheet}
 use Rattle.sheet_grid.specs.contracts.line_attr.LineAttrPartialEq.TheImpl as attribute
-use Rattle.sheet_lines.specs.Followed.{way_of, way_of_edit}
-use Rattle.sheet_lines.specs.Kept.{lines_of, of_sheet, cells_lost, merges_kept, formattings_kept}
-use Rattle.sheet_lines.specs.Sheets.{sheet_of, name_of}
+use Rattle.sheet_lines.specs.Followed.{book_way, way_of, way_of_edit}
+use Rattle.sheet_lines.specs.Kept.{lines_of, of_sheet, lost_of, merges_kept, formattings_kept}
+use Rattle.sheet_ids.specs.Ids.{sheet_of}
 use Rattle.sheet_lines.specs.laws.LinesAfter.{get-lines_carried}
 use Rattle.sheet_lines.specs.laws.Regained.{formulas_at}
 use Rattle.sheet_lines.specs.laws.Stays.{lost_places, way_is}
@@ -70,14 +70,14 @@ pub returns-clause-lost_cells : goal.returns-clause-lost_cells
 returns-clause-lost_cells g c sheet found p =
     let a = g.A.Axis.along in
     let e = c.args.edit.now.kind in
-    ap (λ o. get (of_sheet (cells_lost a (edit_moves a.last e)) o) p) found
+    ap (λ o. get (of_sheet (λ s. lost_of (book_way a e c.args.sheet_id c.args.workbook.now) s.cells) o) p) found
     ∙ lost_entries a e c.args.sheet_id c.args.workbook.now sheet sheet.cells found p
 
 pub returns-clause-lost_links : goal.returns-clause-lost_links
 returns-clause-lost_links g c sheet found p =
     let a = g.A.Axis.along in
     let e = c.args.edit.now.kind in
-    ap (λ o. get (of_sheet (λ s. lost_map (place_image a (edit_moves a.last e).to) s.links) o) p) found
+    ap (λ o. get (of_sheet (λ s. lost_of (book_way a e c.args.sheet_id c.args.workbook.now) s.links) o) p) found
     ∙ lost_entries a e c.args.sheet_id c.args.workbook.now sheet sheet.links found p
 
 pub returns-clause-lost_lines : goal.returns-clause-lost_lines
@@ -87,12 +87,11 @@ returns-clause-lost_lines g c sheet found n =
     ap (λ o. get (of_sheet (λ s. lost_map to (lines_of a s)) o) n) found ∙ get-lost_map int_cmp int_cmp_total exact_signed to (lines_of a sheet) n
 
 pub returns-clause-merges : goal.returns-clause-merges
-returns-clause-merges g c sheet found = ap (merges_kept g.A.Axis.along (edit_moves g.A.Axis.along.last c.args.edit.now.kind) c.args.sheet_id
-    (name_of (sheet_of c.args.workbook.now c.args.sheet_id))) found
+returns-clause-merges g c sheet found = ap (merges_kept (book_way g.A.Axis.along c.args.edit.now.kind c.args.sheet_id c.args.workbook.now)) found
 
 pub returns-clause-formattings : goal.returns-clause-formattings
-returns-clause-formattings g c sheet found = ap (formattings_kept g.A.Axis.along (edit_moves g.A.Axis.along.last c.args.edit.now.kind) c.args.sheet_id
-    (name_of (sheet_of c.args.workbook.now c.args.sheet_id))) found
+returns-clause-formattings g c sheet found =
+    ap (formattings_kept (book_way g.A.Axis.along c.args.edit.now.kind c.args.sheet_id c.args.workbook.now)) found
 
 pub returns-clause-kept_rules : goal.returns-clause-kept_rules
 returns-clause-kept_rules g c sheet found index rule =
@@ -102,6 +101,5 @@ returns-clause-kept_rules g c sheet found index rule =
 
 pub returns-clause-trees : goal.returns-clause-trees
 returns-clause-trees g c id p =
-    let a = g.A.Axis.along in
     let book = c.args.workbook.now in
-    formulas_at a (edit_moves a.last c.args.edit.now.kind) c.args.sheet_id (name_of (sheet_of book c.args.sheet_id)) book c.requires.distinct id p
+    formulas_at (book_way g.A.Axis.along c.args.edit.now.kind c.args.sheet_id book) book c.requires.distinct id p

@@ -1,0 +1,99 @@
+-- The law of followers for a workbook.
+use Rattle.std.proofs.Common.{◌≡◌, ℕ, List, [], ◌∷◌, map, Option, Some, None, refl, ap, sym, subst, ◌∙◌}
+use Rattle.std.specs.Prelude.{⊤, ◌==◌, IfSome, IsTrue, is_some}
+use Rattle.std.specs.List.{IsDistinct}
+use Rattle.std.specs.Option.{option_map}
+use Rattle.base_values.specs.declared.Position.{Position}
+use Rattle.base_values.specs.Places.{position_cmp}
+use Rattle.base_values.specs.laws.Places.{position_total, exact_positions}
+use Rattle.base_axis.specs.Along.{rows, columns}
+use Rattle.base_axis.specs.laws.Lawful.{rows_lawful, columns_lawful}
+use Rattle.base_maps.specs.Carried.{if_there}
+use Rattle.base_maps.specs.laws.Each.{each_lost}
+use Rattle.base_maps.specs.laws.Found.{found_holds}
+use Rattle.base_maps.specs.laws.CarriedLaws.{get-parts_map}
+use Rattle.line_edits.specs.Moves.{place_image}
+use Rattle.line_map.specs.Contents.{cell_carried, cell_part}
+use Rattle.line_map.specs.Maps.{entry_part}
+use Rattle.line_map.specs.laws.AttributeLaws.{lines_stay}
+use Rattle.line_map.specs.laws.MapLaws.{places_stay as map_stays}
+use Rattle.line_routes.specs.Way.{Way, IsWay, back, at, place_goes}
+use Rattle.rule_lines.specs.Canonical.{AreCanonicalKept}
+use Rattle.rule_lines.specs.laws.RuleLaws.{kept_numbers, rules_numbers}
+use Rattle.sheet_grid.specs.CanonicalCell.{IsCanonicalCell, CanonicalCells}
+use Rattle.sheet_grid.specs.contracts.line_attr.LineAttrPartialEq.TheImpl as attribute
+use Rattle.sheet_grid.specs.Sheet.{Sheet}
+use Rattle.sheet_grid.specs.Book.{Book}
+use Rattle.sheet_lines.specs.declared.kept.KeptLines.{KeptLines}
+use Rattle.sheet_lines.specs.Back.{book_restored}
+use Rattle.sheet_lines.specs.CanonicalNumbers.{AreCanonicalFormulas}
+use Rattle.sheet_lines.specs.Followed.{way_on, sheet_followed, sheets_followed, book_carried}
+use Rattle.sheet_lines.specs.Kept.{of_sheet, lost_of, formulas_kept, formattings_kept, lines_kept}
+use Rattle.sheet_ids.specs.Ids.{sheet_of}
+use Rattle.sheet_lines.specs.Workbooks.{IsSoundSheet, SheetsLie, LinesFit}
+use Rattle.sheet_lines.specs.laws.Regained.{found_carried, formulas_at, sheets_regained}
+use Rattle.sheet_lines.specs.laws.Stays.{HasCanonicalNumbers, all_mapped, followed_are, is_way_on, kept_inside, numbers_stay, parts_kept, sheet_placed}
+
+module _ (w : Way) (is : IsWay w) where
+  -- a sheet that follows stays sound
+  sound_carried : (sheet : Sheet) → IsSoundSheet sheet → IsSoundSheet (sheet_followed (way_on w sheet) sheet)
+  sound_carried sheet it = let v : Way = way_on w sheet in let way : IsWay v = is_way_on w is sheet in record {
+    placed = sheet_placed w is sheet it.placed;
+    cells = (map_stays v way cell_carried (λ _ _. ⊤) (λ _ _ _ _. tt) sheet.cells (record { places = it.cells; items = λ _ _ _ _ _. tt })).places;
+    links = (map_stays v way (λ _ link. link) (λ _ _. ⊤) (λ _ _ _ _. tt) sheet.links (record { places = it.links; items = λ _ _ _ _ _. tt })).places;
+    rows = lines_stay v way rows rows_lawful attribute.ghosts.eq sheet.rows it.rows;
+    columns = lines_stay v way columns columns_lawful attribute.ghosts.eq sheet.columns it.columns;
+    numbers = followed_are v way (λ _. IsCanonicalCell) (λ _. HasCanonicalNumbers) numbers_stay sheet.cells it.numbers;
+    rules = rules_numbers v sheet.formattings it.rules;
+  }
+
+  same_ids : (sheets : List Sheet) → map (λ sheet. sheet.id) (sheets_followed w sheets) ≡ map (λ sheet. sheet.id) sheets
+  same_ids [] = refl
+  same_ids (sheet ∷ sheets) = λ i. sheet.id ∷ same_ids sheets i
+
+  still_there : (o : Option Sheet) → IsTrue (is_some o) → IsTrue (is_some (option_map (λ sheet. sheet_followed (way_on w sheet) sheet) o))
+  still_there None h = h
+  still_there (Some sheet) h = refl
+
+  pub book_stays : (book : Book) → SheetsLie w book → SheetsLie (back w) (book_carried w book)
+  book_stays book lie = record {
+    sheets = all_mapped IsSoundSheet (λ sheet. sheet_followed (way_on w sheet) sheet) sound_carried book.worksheets lie.sheets;
+    distinct = subst (IsDistinct ◌==◌) (sym (same_ids book.worksheets)) lie.distinct;
+    there = subst (λ o. IsTrue (is_some o)) (sym (found_carried w w.sheet book.worksheets)) (still_there (sheet_of book w.sheet) lie.there);
+  }
+
+  -- numbers of the trees that are kept of the sheet of an id are canonical
+  trees_at : (p : Position) (o : Option Sheet) → IfSome o IsSoundSheet →
+      IfSome (if_there o (λ sheet. entry_part place_goes at cell_part (way_on w sheet) sheet.cells p)) HasCanonicalNumbers
+  trees_at p None it = tt
+  trees_at p (Some sheet) it = subst (λ o. IfSome o HasCanonicalNumbers)
+      (get-parts_map position_cmp position_total exact_positions (place_goes (way_on w sheet)) (λ p q x. cell_part (at (way_on w sheet) p q) x) sheet.cells p)
+      (parts_kept (way_on w sheet) (is_way_on w is sheet) sheet.cells it.numbers p)
+
+  pub kept_fits : (book : Book) → SheetsLie w book → (kept : KeptLines) → Some (lines_kept w book) ≡ Some kept → LinesFit w kept
+  kept_fits book lie kept h = let same : lines_kept w book ≡ kept = cc in subst (LinesFit w) same (fits (sheet_of book w.sheet) refl lie.there)
+    where
+      sound : (n : ℕ) (o : Option Sheet) → sheet_of book n ≡ o → IfSome o IsSoundSheet
+      sound n None found = tt
+      sound n (Some sheet) found = found_holds (λ s. s.id == n) IsSoundSheet book.worksheets lie.sheets sheet found
+
+      formulas : AreCanonicalFormulas (formulas_kept w book.worksheets)
+      formulas key = subst (λ o. IfSome o HasCanonicalNumbers) (sym (formulas_at w book lie.distinct key.sheet key.place))
+          (trees_at key.place (sheet_of book key.sheet) (sound key.sheet (sheet_of book key.sheet) refl))
+
+      fits : (o : Option Sheet) → sheet_of book w.sheet ≡ o → IsTrue (is_some o) → LinesFit w (lines_kept w book)
+      fits None found there = absurd (cc)
+      fits (Some sheet) found there = let it : IsSoundSheet sheet = sound w.sheet (Some sheet) found in record {
+        numbers = record {
+          cells = subst (λ o. CanonicalCells (of_sheet (λ s. lost_of w s.cells) o)) (sym found)
+              (each_lost position_cmp position_total exact_positions (λ _. IsCanonicalCell) (place_image w.along w.moves.to) sheet.cells it.numbers);
+          formulas = formulas;
+          formattings = subst (λ o. AreCanonicalKept (formattings_kept w o)) (sym found) (kept_numbers (way_on w sheet) sheet.formattings it.rules);
+        };
+        inside = kept_inside w is book sheet found it.cells it.links it.rows it.columns it.placed.merges;
+      }
+
+  pub book_restores : (book : Book) → SheetsLie w book → (kept : KeptLines) → Some (lines_kept w book) ≡ Some kept →
+      book_restored w (book_carried w book) kept ≡ book
+  book_restores book lie kept h = let same : lines_kept w book ≡ kept = cc in
+      ap (book_restored w (book_carried w book)) (sym same) ∙ (λ i. record book { worksheets = sheets_regained w is book lie.distinct i })

@@ -30,7 +30,7 @@ use Rattle.sheet_grid.specs.declared.Cell.{Cell}
 use Rattle.sheet_grid.specs.Sheet.{Sheet}
 use Rattle.sheet_grid.specs.Book.{Book}
 use Rattle.base_maps.specs.ByIndex.{kept_by_index, restored_by_index}
-use Rattle.sheet_lines.specs.CanonicalNumbers.{AreCanonicalFormulas}
+use Rattle.sheet_lines.specs.Back.{AreCanonicalFormulas}
 use Rattle.book_names.specs.declared.kept_trees.KeptTrees.{KeptTrees}
 
 -- ---- the later workbook

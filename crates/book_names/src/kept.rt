@@ -4,7 +4,7 @@ ghost use Rattle.std.specs.Prelude.{◌≡◌, IfOk, IsOkUnless, OnOk, Some};
 ghost use Rattle.base_values.specs.declared.EditError.TheVariants.{NoMemory};
 ghost use Rattle.base_maps.specs.Carried.{entry_made};
 ghost use Rattle.base_maps.specs.laws.Gathering.{with_made};
-ghost use Rattle.sheet_lines.specs.CanonicalNumbers.{AreCanonicalFormulas};
+ghost use Rattle.sheet_lines.specs.Back.{AreCanonicalFormulas};
 ghost use Rattle.book_names.specs.Renaming.{AreCanonicalTrees, cell_kept, cells_kept, formulas_kept, trees_kept};
 
 use crate::kept_rules::kept_formattings;

@@ -9,7 +9,7 @@ ghost use Rattle.base_maps.specs.laws.Gathering.{with_made};
 ghost use Rattle.base_maps.specs.ByIndex.{kept_at, restored_at};
 ghost use Rattle.formula_names.specs.declared.Reach.TheVariants.{Sheets};
 ghost use Rattle.formula_names.specs.Renamed.{tree_renamed};
-ghost use Rattle.sheet_lines.specs.CanonicalNumbers.{AreCanonicalFormulas};
+ghost use Rattle.sheet_lines.specs.Back.{AreCanonicalFormulas};
 ghost use Rattle.book_names.specs.Renaming.{defined_renamed, defined_kept, names_kept, with_kept_tree, names_back};
 
 use crate::cells::stays;

@@ -1,5 +1,5 @@
 -- Maps whose entries are carried along with their keys.
-use Rattle.std.specs.Prelude.{◌≡◌, Option, Some, None, is_none, if◌then◌else◌}
+use Rattle.std.specs.Prelude.{◌≡◌, Bool, Option, Some, None, is_none, if◌then◌else◌}
 use Rattle.std.specs.FinMap.{FinMap, empty, get}
 use Rattle.std.specs.declared.cmp.Ordering.{Ordering}
 use Rattle.base_values.specs.declared.Position.{Position}
@@ -65,10 +65,9 @@ module _ {F : Type 0} where
   abbrev pub entry_lost : {Q : Type 0} {R : Q → Q → Ordering} → (Q → Option Q) → FinMap R F → Q → Option F
   entry_lost to m p = if is_none (to p) then get m p else None
 
-  -- the entries of a map, if there is one
-  abbrev pub entries_of : {Q M : Type 0} {R : Q → Q → Ordering} → (M → FinMap R F) → Option M → FinMap R F
-  entries_of seen None = empty
-  entries_of seen (Some m) = seen m
+  -- what was lost where keys go along, and nothing where they stay
+  abbrev pub lost_along : {Q : Type 0} {R : Q → Q → Ordering} → Bool → FinMap R F → FinMap R F
+  lost_along along lost = if along then lost else empty
 
   -- the same for maps by place
   abbrev pub places_carried : (Way → F → F) → Way → FinMap position_cmp F → FinMap position_cmp F

@@ -17,7 +17,7 @@ use line_edits::LineMap;
 use line_routes::{Route, put_last};
 use std::alloc::Global;
 
-/// What is kept of one entry of a map.
+/// What is kept of one entry of a map: the entry where it goes nowhere, else its part.
 #[derive(Drop)]
 struct KeptEntry<Q, F, P> {
     /// The entry, where it goes nowhere.
@@ -51,34 +51,6 @@ fn under<Q: Drop, V: Drop>(key: Q, value: Option<V>) -> Option<(Q, V)>
     match value {
         Some(value) => Some((key, value)),
         None => None,
-    }
-}
-
-/// What is kept of one entry: the entry where it goes nowhere, else its part.
-fn kept_entry<A: Axis, M: LineMap<A>, F: Follower<A> + Exact, K: RouteKeys<A, F>>(
-    alloc: Global,
-    route: &Route<'_, A, M>,
-    from: K::Key,
-    item: &F,
-) -> Result<KeptEntry<K::Key, F, F::Part>, EditError>
-    requires inside { K.fits from }
-    requires lies { (to : K.Key) → K.goes (way route.now) from ≡ Some to → F.Lies (K.at (way route.now) from to) item.now }
-    ensures lost { IfOk result (λ entry. entry.lost ≡ entry_made Some (if_lost (K.goes (way route.now))) (from, item.now)) }
-    ensures part { IfOk result (λ entry. entry.part ≡ kept_entry K.goes K.at F.part_of (way route.now) (from, item.now)) }
-    ensures only { IsOkUnless result NoMemory }
-{
-    match K::goes(route, from) {
-        Some(to) => {
-            let part = item.part(alloc, &K::at(route, from, to))?;
-            Ok(KeptEntry {
-                lost: None,
-                part: under(from, part),
-            })
-        }
-        None => Ok(KeptEntry {
-            lost: Some((from, copy_of(item)?)),
-            part: None,
-        }),
     }
 }
 
@@ -149,28 +121,8 @@ pub fn carried_map<A: Axis, M: LineMap<A>, F: Follower<A>, K: RouteKeys<A, F>>(
     Ok(carried)
 }
 
-/// What is kept of a map: the entries whose keys go nowhere, and the parts of the others.
-pub fn kept_map<A: Axis, M: LineMap<A>, F: Follower<A> + Exact, K: RouteKeys<A, F>>(
-    alloc: Global,
-    route: &Route<'_, A, M>,
-    map: &KeyMap<K, F>,
-) -> Result<KeptMap<K::Lost, K::Parts, F, F::Part>, EditError>
-    requires { AllLie K.goes K.at K.fits F.Lies (way route.now) (K.seen map.now) }
-    ensures lost { IfOk result (λ kept. rekeyed (K.Lost.seen kept.lost) ≡ lost_map (K.goes (way route.now)) (K.seen map.now)) }
-    ensures parts { IfOk result (λ kept. rekeyed (K.Parts.seen kept.parts) ≡ entries_parts K.goes K.at F.part_of (way route.now) (K.seen map.now)) }
-    ensures only { IsOkUnless result NoMemory }
-{
-    let mut lost = KeyMap::new(alloc);
-    let mut parts = KeyMap::new(alloc);
-    for (from, item) in map.iter() {
-        let entry = kept_entry::<A, M, F, K>(alloc, route, *from, item)?;
-        put_made(entry.lost, &mut lost)?;
-        put_made(entry.part, &mut parts)?;
-    }
-    Ok(KeptMap { lost, parts })
-}
-
-/// A map carried along, and what is kept of it, in one walk over its entries.
+/// A map carried along, and what is kept of it, in one walk over its entries: those whose keys go
+/// nowhere, and the parts of the others.
 pub fn carried_with_kept<A: Axis, M: LineMap<A>, F: Follower<A> + Exact, K: RouteKeys<A, F>>(
     alloc: Global,
     route: &Route<'_, A, M>,

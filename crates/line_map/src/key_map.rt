@@ -1,4 +1,4 @@
-use crate::carried::{carried_map, kept_map};
+use crate::carried::{carried_map, carried_with_kept};
 use crate::follower::Follower;
 use crate::kept::{KeptMap, PartsOf};
 use crate::restored::restored_map;
@@ -44,7 +44,16 @@ impl<A: Axis, K: RouteKeys<A, F>, F: Follower<A> + Exact> Follower<A> for KeyMap
         alloc: Global,
         route: &Route<'_, A, M>,
     ) -> Result<Option<KeptMap<K::Lost, K::Parts, F, F::Part>>, EditError> {
-        Ok(Some(kept_map(alloc, route, self)?))
+        Ok(self.carry_with_part(alloc, route)?.1)
+    }
+
+    fn carry_with_part<M: LineMap<A>>(
+        &self,
+        alloc: Global,
+        route: &Route<'_, A, M>,
+    ) -> Result<(KeyMap<K, F>, Option<KeptMap<K::Lost, K::Parts, F, F::Part>>), EditError> {
+        let (carried, kept) = carried_with_kept(alloc, route, self)?;
+        Ok((carried, Some(kept)))
     }
 
     fn restore<M: LineMap<A>>(
@@ -54,7 +63,7 @@ impl<A: Axis, K: RouteKeys<A, F>, F: Follower<A> + Exact> Follower<A> for KeyMap
         part: &KeptMap<K::Lost, K::Parts, F, F::Part>,
     ) -> Result<KeyMap<K, F>, EditError> {
         let parts = PartsOf { map: &part.parts };
-        restored_map(alloc, route, Some(&part.lost), &parts, self)
+        restored_map(alloc, route, true, &part.lost, &parts, self)
     }
 
     ghost stays = { λ w is map lie. map_stays K.are_keys w is K.model K.seen K.model_seen K.with_brought K.brings F.carry_of F.Lies map lie F.stays };

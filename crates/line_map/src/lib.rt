@@ -20,7 +20,7 @@ mod restored;
 mod route_keys;
 mod trees;
 
-pub use carried::{carried_with_kept, kept_map};
+pub use carried::carried_with_kept;
 pub use contents::{Nothing, Stays};
 pub use follow::{Follow, there_and_back};
 pub use follower::{Follower, regained};

@@ -1,12 +1,12 @@
 //! A map taken back, with what was kept of it.
 
-ghost use Rattle.std.specs.Prelude.{◌≡◌, IfOk, IsOkUnless, OnOk, Some};
+ghost use Rattle.std.specs.Prelude.{◌≡◌, true, IfOk, IsOkUnless, OnOk, Some};
 ghost use Rattle.std.specs.FinMap.{insert};
 ghost use Rattle.std.specs.Option.{option_copied};
 ghost use Rattle.base_values.specs.declared.EditError.TheVariants.{NoMemory};
 ghost use Rattle.base_maps.specs.Carried.{overlaid};
 ghost use Rattle.line_map.specs.Keys.{KeysAre, rekeyed};
-ghost use Rattle.line_map.specs.Maps.{AllLie, PartsFit, entries_of, entries_restored, restored_entry};
+ghost use Rattle.line_map.specs.Maps.{AllLie, PartsFit, entries_restored, lost_along, restored_entry};
 ghost use Rattle.line_routes.specs.Way.{back, way};
 
 use crate::follower::{Follower, regained};
@@ -107,8 +107,8 @@ fn laid_over<A: Axis, F: Follower<A> + Exact, K: RouteKeys<A, F>>(
 }
 
 /// The map before, from the one that was carried along: each entry where its key came from, restored
-/// from the part that is kept under that key, if there is one, else carried back; and the lost
-/// entries, if they are given, in place of those. `NoMemory` is the only error.
+/// from the part that is kept under that key, if there is one, else carried back; and, where keys go
+/// along, the lost entries in place of those. `NoMemory` is the only error.
 pub fn restored_map<
     A: Axis,
     M: LineMap<A>,
@@ -118,19 +118,21 @@ pub fn restored_map<
 >(
     alloc: Global,
     route: &Route<'_, A, M>,
-    lost: Option<&KeyMap<K::Lost, F>>,
+    along: bool,
+    lost: &KeyMap<K::Lost, F>,
     parts: &L,
     map: &KeyMap<K, F>,
 ) -> Result<KeyMap<K, F>, EditError>
     requires lie { AllLie K.goes K.at K.fits F.Lies (back (way route.now)) (K.seen map.now) }
-    requires inside { KeysAre K.fits (entries_of K.Lost.seen (option_copied lost)) }
+    requires inside { along ≡ true → KeysAre K.fits (K.Lost.seen lost.now) }
     requires fit { PartsFit K.goes K.at F.Fits (way route.now) (L.part_at parts.now) }
-    ensures map { IfOk result (λ output. K.seen output ≡ overlaid (rekeyed (entries_of K.Lost.seen (option_copied lost.entry))) (entries_restored K.goes K.at F.carry_of F.restore_of (way route.now) (L.part_at parts.now) (K.seen map.now))) }
+    ensures map { IfOk result (λ output. K.seen output ≡ overlaid (rekeyed (lost_along along (K.Lost.seen lost.now))) (entries_restored K.goes K.at F.carry_of F.restore_of (way route.now) (L.part_at parts.now) (K.seen map.now))) }
     ensures only { IsOkUnless result NoMemory }
 {
     let output = restored_entries(alloc, route, parts, map)?;
-    match lost {
-        Some(lost) => laid_over::<A, F, K>(lost, output),
-        None => Ok(output),
+    if along {
+        laid_over::<A, F, K>(lost, output)
+    } else {
+        Ok(output)
     }
 }

@@ -3,7 +3,7 @@
 ghost use Rattle.std.specs.Prelude.{◌≡◌, length, true, IfOk, IsOkUnless};
 ghost use Rattle.base_values.specs.declared.EditError.TheVariants.{NoMemory};
 ghost use Rattle.book_names.specs.Renaming.{AreCanonicalFormattings, AreCanonicalTrees};
-ghost use Rattle.sheet_lines.specs.CanonicalNumbers.{AreCanonicalFormulas};
+ghost use Rattle.sheet_lines.specs.Back.{AreCanonicalFormulas};
 ghost use Rattle.name_edits.specs.NameChanges.{IsCanonicalChange, formulas_lost, formattings_lost, trees_lost};
 ghost use Rattle.name_edits.specs.NameDiffs.{has_place};
 

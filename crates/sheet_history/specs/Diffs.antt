@@ -8,7 +8,7 @@ use Rattle.sheet_grid.specs.Book.{Book}
 use Rattle.sheet_grid.specs.Sheet.{Sheet}
 use Rattle.sheet_grid.specs.CanonicalCell.{IsCanonicalCell}
 use Rattle.sheet_rules.specs.WellFormed.{broken_rule}
-use Rattle.sheet_lines.specs.CanonicalNumbers.{AreCanonicalLines}
+use Rattle.sheet_lines.specs.Back.{AreCanonicalLines}
 use Rattle.book_sheets.specs.SheetDiffs.{IsCanonicalSheet, new_forward, new_back, copy_forward, copy_back, deletion_forward, deletion_back, sheet_moves}
 use Rattle.book_names.specs.Renaming.{AreCanonicalTrees}
 use Rattle.book_names.specs.RenameDiffs.{rename_forward, rename_back}

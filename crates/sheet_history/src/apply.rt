@@ -3,7 +3,7 @@ ghost use Rattle.base_values.specs.Answers.{Answers, Edits};
 ghost use Rattle.sheet_grid.specs.CanonicalCell.{IsCanonicalCell};
 ghost use Rattle.line_edits.specs.declared.EditKind.{EditKind};
 ghost use Rattle.sheet_rules.specs.WellFormed.{IsWellFormed, broken_rule};
-ghost use Rattle.sheet_lines.specs.CanonicalNumbers.{AreCanonicalLines};
+ghost use Rattle.sheet_lines.specs.Back.{AreCanonicalLines};
 ghost use Rattle.sheet_lines.specs.Sheets.{IsPlacedBook};
 ghost use Rattle.sheet_history.specs.LineDiffs.{along_of, lines_back, lines_forward};
 ghost use Rattle.sheet_history.specs.Diffs.{IsCanonicalDiff, IsCanonicalList, book_before, by_rule, book_after, untested_after, step_back, step_forward, untested_before};

@@ -1,56 +1,37 @@
 -- A workbook taken back along a map on the lines of one of its sheets.
-use Rattle.std.specs.Prelude.{◌≡◌, ℕ, Bool, true, List, map, Option, Some, None, IfSome, if◌then◌else◌}
-use Rattle.std.specs.Ordering.{nat_cmp}
+use Rattle.std.specs.Prelude.{◌≡◌, ℕ, true, List, map, Some, IfSome, IsTrue}
 use Rattle.std.specs.declared.cmp.Ordering.{Ordering}
-use Rattle.std.specs.FinMap.{FinMap, empty, get}
-use Rattle.base_axis.specs.Along.{Along, rows, columns}
-use Rattle.base_axis.specs.declared.MergedCell.{MergedCell}
-use Rattle.base_maps.specs.Carried.{moved_map, overlaid, settled}
+use Rattle.std.specs.FinMap.{FinMap, get}
+use Rattle.base_axis.specs.Along.{Along}
+use Rattle.base_maps.specs.Carried.{overlaid}
 use Rattle.base_maps.specs.Tagged.{place_on}
-use Rattle.format_rules.specs.declared.ConditionalFormatting.{ConditionalFormatting}
 use Rattle.line_edits.specs.declared.EditKind.{EditKind}
-use Rattle.line_map.specs.Attributes.{lines_restored, LinesLie}
+use Rattle.line_map.specs.Attributes.{LinesLie}
 use Rattle.line_map.specs.Contents.{cell_carried, cell_restored}
-use Rattle.line_map.specs.Maps.{places_restored, KeysInside}
-use Rattle.line_routes.specs.Merges.{merges_carried, MergesLie}
-use Rattle.line_routes.specs.Way.{Way, back, place_goes}
-use Rattle.rule_lines.specs.Canonical.{KeptLie}
-use Rattle.rule_lines.specs.Rules.{rules_restored}
+use Rattle.line_map.specs.Maps.{lost_along, places_restored, KeysInside}
+use Rattle.line_routes.specs.Merges.{MergesLie}
+use Rattle.line_routes.specs.Way.{Way, back}
+use Rattle.rule_lines.specs.Canonical.{AreCanonicalKept, KeptLie}
 use Rattle.formula_tree.specs.declared.Node.{Node}
+use Rattle.formula_tree.specs.Numbers.{has_canonical_numbers}
 use Rattle.formula_tree.specs.Placed.{is_placed}
 use Rattle.base_maps.specs.declared.SheetPlace.{SheetPlace}
 use Rattle.base_values.specs.declared.Position.{Position}
 use Rattle.sheet_grid.specs.declared.Cell.{Cell}
-use Rattle.sheet_grid.specs.Sheet.{Sheet}
+use Rattle.sheet_grid.specs.CanonicalCell.{CanonicalCells}
+use Rattle.sheet_grid.specs.Sheet.{Sheet, with_entries}
 use Rattle.sheet_grid.specs.Book.{Book}
 use Rattle.sheet_lines.specs.declared.kept.KeptLines.{KeptLines}
 use Rattle.sheet_lines.specs.Followed.{book_way, way_on}
 use Rattle.sheet_lines.specs.Sheets.{IsPlacedCell}
+use Rattle.sheet_lines.specs.Part.{part_restored}
+use Rattle.sheet_lines.specs.Parts.{parts, only_cells}
 
--- what was lost where keys go along, and nothing where they stay
-abbrev pub lost_along : {K X : Type 0} {R : K → K → Ordering} → Bool → FinMap R X → FinMap R X
-lost_along along lost = if along then lost else empty
-
--- the merges that were kept of the edited sheet, else those that go back
-abbrev pub merges_back : Way → Option (List MergedCell) → List MergedCell → List MergedCell
-merges_back w kept merges = settled (merges_carried (back w)) (λ _ list. list) (if w.is_edited then kept else None) merges
-
--- the conditional rules of the edited sheet: each that was kept, and each other one carried back. On another sheet they stay
-abbrev pub formattings_back : Way → FinMap nat_cmp ConditionalFormatting → List ConditionalFormatting → List ConditionalFormatting
-formattings_back w kept rules = if w.is_edited then rules_restored w kept rules else rules
-
--- a sheet taken back: its cells with the kept trees and the lost cells, its links with the lost ones, its rows and columns with what the
--- lost ones had, its merges and its conditional rules
+-- a sheet taken back: its cells with the kept trees and the lost cells, and its other parts
 abbrev pub sheet_back : Way → KeptLines → Sheet → Sheet
-sheet_back w kept sheet = record sheet {
-  cells = overlaid (lost_along w.is_edited kept.cells) (places_restored cell_carried (λ _ cell tree. cell_restored cell tree) w
-      (λ place. get kept.formulas (place_on sheet.id place)) sheet.cells);
-  links = overlaid (lost_along w.is_edited kept.links) (moved_map (place_goes (back w)) (place_goes w) sheet.links);
-  rows = lines_restored rows w sheet.rows kept.lines;
-  columns = lines_restored columns w sheet.columns kept.lines;
-  merges = merges_back w kept.merges sheet.merges;
-  formattings = formattings_back w kept.formattings sheet.formattings;
-}
+sheet_back w kept sheet =
+    with_entries sheet (part_restored parts w kept sheet (only_cells (overlaid (lost_along w.is_edited kept.cells)
+    (places_restored cell_carried (λ _ cell tree. cell_restored cell tree) w (λ place. get kept.formulas (place_on sheet.id place)) sheet.cells))))
 
 -- every sheet taken back along the way of the edited sheet
 abbrev pub sheets_back : Way → KeptLines → List Sheet → List Sheet
@@ -76,3 +57,13 @@ pub record ArePlacedLines (kept : KeptLines) : Type 0 where
   pub cells : (place : Position) (cell : Cell) → get kept.cells place ≡ Some cell → IsPlacedCell place cell
   pub formulas : (key : SheetPlace) (tree : Node) → get kept.formulas key ≡ Some tree → is_placed key.place tree ≡ true
   pub formattings : KeptLie kept.formattings
+
+-- every number of trees is canonical
+abbrev pub AreCanonicalFormulas : {K : Type 0} {R : K → K → Ordering} → FinMap R Node → Type 0
+AreCanonicalFormulas formulas = (place : _) → IfSome (get formulas place) (λ tree. IsTrue (has_canonical_numbers tree))
+
+-- so is each number of what is kept
+pub record AreCanonicalLines (kept : KeptLines) : Type 0 where
+  pub cells : CanonicalCells kept.cells
+  pub formulas : AreCanonicalFormulas kept.formulas
+  pub formattings : AreCanonicalKept kept.formattings

@@ -1,18 +1,16 @@
 -- A workbook along a map on the lines of one of its sheets.
 use Rattle.std.specs.Prelude.{ℕ, List, map, pos, true}
-use Rattle.base_axis.specs.Along.{Along, rows, columns}
+use Rattle.base_axis.specs.Along.{Along}
 use Rattle.line_edits.specs.declared.EditKind.{EditKind}
-use Rattle.line_map.specs.Attributes.{lines_carried}
 use Rattle.line_map.specs.Contents.{cell_carried}
 use Rattle.line_map.specs.Maps.{places_carried}
-use Rattle.line_routes.specs.Merges.{merges_carried}
 use Rattle.line_edits.specs.Moves.{LineMoves, edit_moves}
 use Rattle.line_routes.specs.Way.{Way, on}
-use Rattle.rule_lines.specs.Rules.{rules_carried}
-use Rattle.sheet_grid.specs.contracts.line_attr.LineAttrPartialEq.TheImpl as attribute
-use Rattle.sheet_grid.specs.Sheet.{Sheet}
+use Rattle.sheet_grid.specs.Sheet.{Sheet, with_entries}
 use Rattle.sheet_grid.specs.Book.{Book}
 use Rattle.sheet_ids.specs.Ids.{sheet_of, name_of}
+use Rattle.sheet_lines.specs.Part.{part_carried}
+use Rattle.sheet_lines.specs.Parts.{parts, only_cells}
 
 -- how a map on the lines of the sheet of an id, which has that name, meets that sheet
 abbrev pub edited_way : Along → LineMoves → ℕ → List ℕ → Way
@@ -43,16 +41,9 @@ book_way a e id book = edited_way a (edit_moves a.last e) id (name_of (sheet_of 
 abbrev pub way_of_edit : Along → EditKind → ℕ → Book → Sheet → Way
 way_of_edit a e id book sheet = way_on (book_way a e id book) sheet
 
--- a sheet's cells, links, rows, columns, merges and conditional rules, each where it goes
+-- a sheet whose cells and other parts are carried along
 abbrev pub sheet_followed : Way → Sheet → Sheet
-sheet_followed w sheet = record sheet {
-  cells = places_carried cell_carried w sheet.cells;
-  links = places_carried (λ _ link. link) w sheet.links;
-  rows = lines_carried rows attribute.ghosts.eq w sheet.rows;
-  columns = lines_carried columns attribute.ghosts.eq w sheet.columns;
-  merges = merges_carried w sheet.merges;
-  formattings = rules_carried w sheet.formattings;
-}
+sheet_followed w sheet = with_entries sheet (part_carried parts w sheet (only_cells (places_carried cell_carried w sheet.cells)))
 
 -- every sheet follows along the way of the edited sheet
 abbrev pub sheets_followed : Way → List Sheet → List Sheet

@@ -1,7 +1,8 @@
+pub mod Part
+pub mod Parts
 pub mod Sheets
 pub mod Followed
 pub mod Kept
-pub mod CanonicalNumbers
 pub mod Entries
 pub mod Back
 pub mod Workbooks

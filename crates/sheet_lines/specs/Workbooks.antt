@@ -10,8 +10,7 @@ use Rattle.sheet_grid.specs.CanonicalCell.{CanonicalCells}
 use Rattle.sheet_grid.specs.Sheet.{Sheet}
 use Rattle.sheet_grid.specs.Book.{Book}
 use Rattle.sheet_lines.specs.declared.kept.KeptLines.{KeptLines}
-use Rattle.sheet_lines.specs.Back.{LieInside}
-use Rattle.sheet_lines.specs.CanonicalNumbers.{AreCanonicalLines}
+use Rattle.sheet_lines.specs.Back.{AreCanonicalLines, LieInside}
 use Rattle.sheet_ids.specs.Ids.{sheet_of, HasDistinctIds}
 use Rattle.sheet_lines.specs.Sheets.{IsPlacedSheet}
 

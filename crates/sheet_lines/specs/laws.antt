@@ -1,3 +1,4 @@
+pub mod PartLaws
 pub mod KeptEquals
 pub mod Stays
 pub mod Regained

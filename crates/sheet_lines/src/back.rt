@@ -1,36 +1,25 @@
-ghost use Rattle.std.specs.Prelude.{◌≡◌, true, IfOk, IfSome, IsOkUnless, IsTrue, is_some};
+ghost use Rattle.std.specs.Prelude.{◌≡◌, IfOk, IsOkUnless, IsTrue, is_some};
 ghost use Rattle.std.specs.List.{AllByRecursion};
 ghost use Rattle.base_values.specs.declared.EditError.TheVariants.{NoMemory};
-ghost use Rattle.base_maps.specs.Carried.{overlaid};
-ghost use Rattle.line_map.specs.Attributes.{LinesLie, lines_restored};
 ghost use Rattle.line_edits.specs.Edit.{IsValid};
-ghost use Rattle.line_map.specs.Keys.{KeysAre, rekeyed};
-ghost use Rattle.line_map.specs.Maps.{AllLie, PartsFit, entries_restored};
-ghost use Rattle.line_routes.specs.Merges.{MergesLie};
-ghost use Rattle.line_routes.specs.Way.{back, way};
-ghost use Rattle.rule_lines.specs.Canonical.{AreCanonicalKept};
-ghost use Rattle.rule_lines.specs.Rules.{RulesLie};
-ghost use Rattle.sheet_lines.specs.Back.{LieInside, ArePlacedLines, lost_along, merges_back, formattings_back, sheet_back, sheets_back, book_back, book_restored};
+ghost use Rattle.line_routes.specs.Way.{way};
+ghost use Rattle.sheet_lines.specs.Back.{AreCanonicalLines, LieInside, ArePlacedLines, sheet_back, sheets_back, book_back, book_restored};
 ghost use Rattle.sheet_lines.specs.Followed.{way_on};
-ghost use Rattle.sheet_lines.specs.CanonicalNumbers.{AreCanonicalLines};
 ghost use Rattle.sheet_ids.specs.Ids.{sheet_of};
 ghost use Rattle.sheet_lines.specs.Sheets.{IsPlacedSheet, IsPlacedBook};
 
-use crate::inside::places_inside;
+use crate::inside::{is_sound, places_inside};
 use crate::kept::KeptLines;
-use crate::sheets::{book_route, route_on};
-use base_axis::{Axis, AxisMap, MergeList};
+use crate::part::SheetPart;
+use crate::parts::SheetParts;
+use crate::sheets::{book_route, on_sheet};
+use base_axis::Axis;
 use base_maps::{SheetPlace, SheetPlaceMap};
 use base_shared::Shared;
-use base_values::{EditError, Exact, Items, KeyMap, Position, copy_of};
-use format_rules::RuleList;
+use base_values::{EditError, Items, Position};
 use formula_tree::Node;
-use line_map::{
-    Follower, LineEdit, LineMap, Nothing, Parts, Route, RouteKeys, goes_along, regained,
-    restored_map,
-};
-use rule_lines::restored_rules;
-use sheet_grid::{LineAttr, SheetEntries, Workbook, Worksheet};
+use line_map::{LineEdit, LineMap, Nothing, Parts, Route, restored_map};
+use sheet_grid::{SheetEntries, Workbook, Worksheet};
 use std::alloc::Global;
 
 /// The kept trees of the sheet of an id.
@@ -54,7 +43,7 @@ impl<'k> Parts<Position, Shared<Node>> for SheetTrees<'k> {
 
 /// What has no parts.
 #[derive(Drop)]
-struct NoParts {}
+pub(crate) struct NoParts {}
 
 impl<Q: Drop> Parts<Q, Nothing> for NoParts {
     ghost use Rattle.std.specs.Prelude.{None};
@@ -63,90 +52,6 @@ impl<Q: Drop> Parts<Q, Nothing> for NoParts {
 
     fn part(&self, _key: Q) -> Option<&Nothing> {
         None
-    }
-}
-
-/// A map taken back, with the kept parts and, where keys go along, the lost entries.
-fn map_back<
-    A: Axis,
-    M: LineMap<A>,
-    F: Follower<A> + Exact,
-    K: RouteKeys<A, F>,
-    L: Parts<K::Key, F::Part>,
->(
-    alloc: Global,
-    route: &Route<'_, A, M>,
-    parts: &L,
-    along: bool,
-    lost: &KeyMap<K::Lost, F>,
-    map: &KeyMap<K, F>,
-) -> Result<KeyMap<K, F>, EditError>
-    requires lie { AllLie K.goes K.at K.fits F.Lies (back (way route.now)) (K.seen map.now) }
-    requires fit { PartsFit K.goes K.at F.Fits (way route.now) (L.part_at parts.now) }
-    requires inside { along ≡ true → KeysAre K.fits (K.Lost.seen lost.now) }
-    ensures map { IfOk result (λ output. K.seen output ≡ overlaid (rekeyed (lost_along along (K.Lost.seen lost.now))) (entries_restored K.goes K.at F.carry_of F.restore_of (way route.now) (L.part_at parts.now) (K.seen map.now))) }
-    ensures only { IsOkUnless result NoMemory }
-{
-    let lost = along.then_some(lost);
-    restored_map(alloc, route, lost, parts, map)
-}
-
-/// What the lines of an axis have, taken back on the edited axis of the edited sheet.
-fn lines_back<A: Axis, B: Axis, M: LineMap<A>>(
-    alloc: Global,
-    route: &Route<'_, A, M>,
-    kept: &KeptLines,
-    lines: &AxisMap<B, LineAttr>,
-) -> Result<AxisMap<B, LineAttr>, EditError>
-    requires { LinesLie A.along kept.now.lines }
-    ensures lines { IfOk result (λ output. output ≡ lines_restored B.along (way route.now) lines.now kept.now.lines) }
-    ensures only { IsOkUnless result NoMemory }
-{
-    // For the proof: what lies inside.
-    places_inside(lines);
-    route.is_way();
-    let along = goes_along::<A, B, M>(route);
-    map_back(alloc, route, &NoParts {}, along, &kept.lines, lines)
-}
-
-/// The merges of a sheet taken back: on the edited sheet the kept ones, if there are.
-fn merges_back<A: Axis, M: LineMap<A>>(
-    alloc: Global,
-    route: &Route<'_, A, M>,
-    kept: &KeptLines,
-    sheet: &Worksheet,
-) -> Result<MergeList, EditError>
-    requires inside { MergesLie sheet.now.merges }
-    requires kept { IfSome kept.now.merges MergesLie }
-    ensures merges { IfOk result (λ output. output ≡ merges_back (way route.now) kept.now.merges sheet.now.merges) }
-    ensures only { IsOkUnless result NoMemory }
-{
-    let merges = sheet.merge_list();
-    if route.is_edited {
-        regained(alloc, route, merges, kept.merges.as_ref())
-    } else {
-        merges.carry(alloc, &route.back())
-    }
-}
-
-/// The conditional rules of a sheet taken back: on the edited sheet the kept ones, and each other one
-/// carried back.
-fn formattings_back<A: Axis, M: LineMap<A>>(
-    alloc: Global,
-    route: &Route<'_, A, M>,
-    kept: &KeptLines,
-    sheet: &Worksheet,
-) -> Result<RuleList, EditError>
-    requires inside { RulesLie sheet.now.formattings }
-    requires numbers { AreCanonicalKept kept.now.formattings }
-    ensures formattings { IfOk result (λ output. output ≡ formattings_back (way route.now) kept.now.formattings sheet.now.formattings) }
-    ensures only { IsOkUnless result NoMemory }
-{
-    let rules = sheet.conditional_formatting();
-    if route.is_edited {
-        restored_rules(alloc, route, rules, &kept.formattings)
-    } else {
-        copy_of(rules)
     }
 }
 
@@ -163,21 +68,16 @@ fn sheet_back<A: Axis, M: LineMap<A>>(
     ensures sheet { IfOk result (λ output. output ≡ sheet_back (way_on (way route.now) sheet.now) kept.now sheet.now) }
     ensures only { IsOkUnless result NoMemory }
 {
-    let route = &route_on(route, sheet);
+    let on = on_sheet(alloc, route, sheet);
     let (formulas, id) = (&kept.formulas, sheet.get_sheet_id());
-    let (cells, links) = (sheet.cell_map(), sheet.link_map());
+    let (trees, along) = (SheetTrees { formulas, id }, on.route.is_edited);
+    let (lost, cells) = (&kept.cells, sheet.cell_map());
     // For the proof: what lies inside.
+    is_sound(sheet);
     places_inside(cells);
-    places_inside(links);
-    let (trees, along) = (SheetTrees { formulas, id }, route.is_edited);
-    let entries = SheetEntries {
-        cells: map_back(alloc, route, &trees, along, &kept.cells, cells)?,
-        links: map_back(alloc, route, &NoParts {}, along, &kept.links, links)?,
-        rows: lines_back(alloc, route, kept, sheet.row_map())?,
-        columns: lines_back(alloc, route, kept, sheet.column_map())?,
-        merges: merges_back(alloc, route, kept, sheet)?,
-        formattings: formattings_back(alloc, route, kept, sheet)?,
-    };
+    let cells = restored_map(alloc, &on.route, along, lost, &trees, cells)?;
+    let entries = SheetEntries::of_cells(alloc, cells);
+    let entries = <SheetParts as SheetPart<A, M>>::restore(&on, kept, entries)?;
     sheet.with_entries(entries)
 }
 

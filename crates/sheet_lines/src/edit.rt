@@ -1,63 +1,21 @@
 ghost use Rattle.std.specs.Prelude.{◌≡◌, IfOk, IsOkUnless, IsTrue, is_some};
 ghost use Rattle.base_values.specs.declared.EditError.TheVariants.{NoMemory};
 ghost use Rattle.line_edits.specs.Edit.{IsValid};
-ghost use Rattle.sheet_lines.specs.Back.{LieInside};
-ghost use Rattle.sheet_lines.specs.Followed.{book_carried, book_followed};
-ghost use Rattle.sheet_lines.specs.Kept.{first_lost, formulas_kept, kept_lines, lines_kept};
-ghost use Rattle.sheet_lines.specs.CanonicalNumbers.{AreCanonicalFormulas, AreCanonicalLines};
 ghost use Rattle.line_routes.specs.Way.{way};
+ghost use Rattle.sheet_lines.specs.Back.{AreCanonicalLines, LieInside};
+ghost use Rattle.sheet_lines.specs.Followed.{book_carried, book_followed};
+ghost use Rattle.sheet_lines.specs.Kept.{kept_lines, lines_kept};
 ghost use Rattle.sheet_ids.specs.Ids.{sheet_of};
 ghost use Rattle.sheet_lines.specs.Sheets.{IsPlacedBook};
 
-use crate::followed::{KeptOfCells, followed_with_kept};
-use crate::inside::places_inside;
-use crate::keeping::lost_attributes;
+use crate::followed::followed_with_kept;
 use crate::kept::KeptLines;
-use crate::sheets::{book_route, route_on};
+use crate::sheets::book_route;
 use base_axis::Axis;
 use base_values::EditError;
-use line_map::{Follower, LineEdit, LineMap, Route, kept_map};
-use rule_lines::kept_rules;
+use line_map::{LineEdit, LineMap, Route};
 use sheet_grid::Workbook;
-use sheet_ids::sheet_of;
 use std::alloc::Global;
-
-/// What is kept of a workbook whose sheet of an id is edited, with what is kept of its cells.
-fn kept_lines<A: Axis, M: LineMap<A>>(
-    alloc: Global,
-    route: &Route<'_, A, M>,
-    workbook: &Workbook,
-    cells: KeptOfCells,
-) -> Result<KeptLines, EditError>
-    requires there { IsTrue (is_some (sheet_of workbook.now (way route.now).sheet)) }
-    requires placed { IsPlacedBook workbook.now }
-    requires lost { cells.lost ≡ first_lost (way route.now) workbook.now.worksheets }
-    requires formulas { cells.formulas ≡ formulas_kept (way route.now) workbook.now.worksheets }
-    requires canonical { AreCanonicalFormulas cells.formulas }
-    ensures kept { IfOk result (λ kept. kept ≡ lines_kept (way route.now) workbook.now) }
-    ensures numbers { IfOk result AreCanonicalLines }
-    ensures inside { IfOk result (LieInside A.along) }
-    ensures only { IsOkUnless result NoMemory }
-{
-    let Some(sheet) = sheet_of(workbook, route.sheet) else {
-        unreachable!()
-    };
-    // For the proof: the route is a way, and what lies inside.
-    route.is_way();
-    places_inside(sheet.cell_map());
-    places_inside(sheet.link_map());
-    places_inside(sheet.row_map());
-    places_inside(sheet.column_map());
-    let there = route_on(route, sheet);
-    Ok(KeptLines {
-        cells: cells.lost.unwrap(),
-        links: kept_map(alloc, &there, sheet.link_map())?.lost,
-        lines: lost_attributes(alloc, &there, sheet)?,
-        formulas: cells.formulas,
-        merges: sheet.merge_list().part(alloc, &there)?,
-        formattings: kept_rules(alloc, &there, sheet.conditional_formatting())?,
-    })
-}
 
 /// The workbook along the way of the edited sheet, and what the way back does not give.
 pub(crate) fn carried_with_lines<A: Axis, M: LineMap<A>>(
@@ -73,9 +31,10 @@ pub(crate) fn carried_with_lines<A: Axis, M: LineMap<A>>(
     ensures inside { IfOk result (λ both. LieInside A.along both.1) }
     ensures only { IsOkUnless result NoMemory }
 {
-    let (sheets, cells) = followed_with_kept(alloc, route, workbook.worksheets())?;
+    let (sheets, kept) = followed_with_kept(alloc, route, workbook.worksheets())?;
     let carried = workbook.with_worksheets(sheets)?;
-    let kept = kept_lines(alloc, route, workbook, cells)?;
+    let (edited, formulas) = (kept.edited.unwrap(), kept.formulas);
+    let kept = KeptLines { formulas, ..edited };
     Ok((carried, kept))
 }
 

@@ -1,89 +1,39 @@
-ghost use Rattle.std.specs.Prelude.{◌≡◌, ◌==◌, IfOk, IsOkUnless};
+ghost use Rattle.std.specs.Prelude.{◌≡◌, ◌==◌, IfOk, IfSome, IsOkUnless};
 ghost use Rattle.std.specs.Bool.{then_some};
 ghost use Rattle.std.specs.List.{AllByRecursion};
-ghost use Rattle.std.specs.Option.{option_or};
 ghost use Rattle.base_values.specs.declared.EditError.TheVariants.{NoMemory};
 ghost use Rattle.base_maps.specs.Carried.{lost_map};
-ghost use Rattle.base_maps.specs.Tagged.{put_under};
 ghost use Rattle.line_edits.specs.Edit.{IsValid};
-ghost use Rattle.line_map.specs.Attributes.{lines_carried};
 ghost use Rattle.line_routes.specs.Way.{place_goes, way};
-ghost use Rattle.sheet_grid.specs.contracts.line_attr.LineAttrPartialEq.TheImpl as attribute;
-ghost use Rattle.sheet_grid.specs.CanonicalCell.{CanonicalCells};
 ghost use Rattle.sheet_lines.specs.Followed.{way_on, sheet_followed, sheets_followed, book_carried, book_followed};
-ghost use Rattle.sheet_lines.specs.Kept.{trees_kept, first_lost, formulas_kept};
-ghost use Rattle.sheet_lines.specs.CanonicalNumbers.{AreCanonicalFormulas};
+ghost use Rattle.sheet_lines.specs.Kept.{kept_of, first_kept, trees_kept, formulas_kept};
+ghost use Rattle.sheet_lines.specs.Back.{AreCanonicalFormulas};
+ghost use Rattle.sheet_lines.specs.Part.{part_carried};
+ghost use Rattle.sheet_lines.specs.Parts.{parts};
 ghost use Rattle.sheet_lines.specs.Sheets.{IsPlacedSheet, IsPlacedBook};
+ghost use Rattle.sheet_lines.specs.Workbooks.{IsSoundSheet, LinesFit};
 
-use crate::inside::places_inside;
-use crate::sheets::{book_route, route_on};
-use base_axis::{Axis, AxisMap};
-use base_maps::{PositionKeys, PositionMap, SheetPlaceMap};
+use crate::inside::{is_sound, places_inside};
+use crate::kept::KeptLines;
+use crate::part::{Carried, SheetPart};
+use crate::parts::SheetParts;
+use crate::sheets::{OnSheet, book_route, on_sheet};
+use base_axis::Axis;
+use base_maps::{PositionMap, SheetPlaceMap};
 use base_shared::Shared;
-use base_values::{EditError, Items, PlaceMap};
+use base_values::{EditError, Items};
 use formula_tree::Node;
-use line_map::{Follower, KeptMap, LineEdit, LineMap, Route, carried_with_kept};
-use rule_lines::carried_rules;
-use sheet_grid::{Cell, LineAttr, SheetEntries, Workbook, Worksheet};
+use line_map::{Follower, LineEdit, LineMap, Route, carried_with_kept};
+use sheet_grid::{Cell, SheetEntries, Workbook, Worksheet};
 use std::alloc::Global;
 
-/// What is kept of the cells of a sheet.
-type KeptCells = KeptMap<
-    PositionKeys<Shared<Cell>>,
-    PositionKeys<Shared<Node>>,
-    Shared<Cell>,
-    Shared<Node>,
->;
-
-/// What is kept of the cells of a workbook's sheets.
+/// What is kept of a sheet, or of a workbook's sheets.
 #[derive(Drop)]
-pub(crate) struct KeptOfCells {
-    /// The lost cells of the first sheet with the edited id, if there is one.
-    pub(crate) lost: Option<PositionMap<Shared<Cell>>>,
-    /// The trees of the other formulas that do not come back, by the ids of their sheets and their
-    /// positions before the edit.
-    pub(crate) formulas: SheetPlaceMap<Shared<Node>>,
-}
-
-/// What the lines of an axis have, carried along.
-fn lines_followed<A: Axis, B: Axis, M: LineMap<A>>(
-    alloc: Global,
-    route: &Route<'_, A, M>,
-    lines: &AxisMap<B, LineAttr>,
-) -> Result<AxisMap<B, LineAttr>, EditError>
-    ensures lines { IfOk result (λ followed. followed ≡ lines_carried B.along attribute.ghosts.eq (way route.now) lines.now) }
-    ensures only { IsOkUnless result NoMemory }
-{
-    // For the proof: what lies inside.
-    places_inside(lines);
-    route.is_way();
-    lines.carry(alloc, route)
-}
-
-/// A sheet with these cells, whose links, rows, columns, merges and conditional rules are carried
-/// along.
-fn followed_with<A: Axis, M: LineMap<A>>(
-    alloc: Global,
-    route: &Route<'_, A, M>,
-    sheet: &Worksheet,
-    cells: PlaceMap<Shared<Cell>>,
-) -> Result<Worksheet, EditError>
-    requires placed { IsPlacedSheet sheet.now }
-    requires canonical { CanonicalCells cells }
-    ensures sheet { IfOk result (λ followed. followed ≡ record (sheet_followed (way route.now) sheet.now) { cells = cells }) }
-    ensures only { IsOkUnless result NoMemory }
-{
-    // For the proof: what lies inside.
-    places_inside(sheet.link_map());
-    let entries = SheetEntries {
-        cells,
-        links: sheet.link_map().carry(alloc, route)?,
-        rows: lines_followed(alloc, route, sheet.row_map())?,
-        columns: lines_followed(alloc, route, sheet.column_map())?,
-        merges: sheet.merge_list().carry(alloc, route)?,
-        formattings: carried_rules(alloc, route, sheet.conditional_formatting())?,
-    };
-    sheet.with_entries(entries)
+pub(crate) struct Kept<T> {
+    /// All but trees, of the edited sheet, if it is there.
+    pub(crate) edited: Option<KeptLines>,
+    /// The trees of the other formulas that do not come back, by what tells their cells.
+    pub(crate) formulas: T,
 }
 
 /// A sheet along the way of the edited one: each part of it is carried along.
@@ -96,76 +46,91 @@ fn followed_sheet<A: Axis, M: LineMap<A>>(
     ensures sheet { IfOk result (λ followed. followed ≡ sheet_followed (way_on (way route.now) sheet.now) sheet.now) }
     ensures only { IsOkUnless result NoMemory }
 {
-    let (there, map) = (route_on(route, sheet), sheet.cell_map());
+    let (on, cells) = (on_sheet(alloc, route, sheet), sheet.cell_map());
     // For the proof: what lies inside.
-    places_inside(map);
-    let cells = map.carry(alloc, &there)?;
-    followed_with(alloc, &there, sheet, cells)
+    is_sound(sheet);
+    places_inside(cells);
+    let cells = cells.carry(alloc, &on.route)?;
+    let entries = SheetEntries::of_cells(alloc, cells);
+    let entries = <SheetParts as SheetPart<A, M>>::carry(&on, entries)?;
+    sheet.with_entries(entries)
 }
 
-/// A sheet along the way of the edited one, and what is kept of its cells, in one walk over them.
+/// Entries with the parts of a sheet besides its cells, carried along, and, if it is the edited one,
+/// what is kept of them and of its lost cells.
+fn parts_with_kept<A: Axis, M: LineMap<A>>(
+    on: &OnSheet<'_, A, M>,
+    entries: SheetEntries,
+    lost: PositionMap<Shared<Cell>>,
+) -> Result<(SheetEntries, Option<KeptLines>), EditError>
+    requires sound { IsSoundSheet on.now.sheet.now }
+    requires lost { lost ≡ lost_map (place_goes (way on.now.route)) on.now.sheet.now.cells }
+    ensures entries { IfOk result (λ both. both.0 ≡ part_carried parts (way on.now.route) on.now.sheet.now entries) }
+    ensures kept { IfOk result (λ both. both.1 ≡ then_some on.now.route.is_edited (kept_of (way on.now.route) on.now.sheet.now)) }
+    ensures only { IsOkUnless result NoMemory }
+{
+    if on.route.is_edited {
+        let kept = KeptLines::of_cells(on.alloc, lost);
+        let so_far = Carried { entries, kept };
+        let carried = <SheetParts as SheetPart<A, M>>::carry_with_kept(on, so_far)?;
+        Ok((carried.entries, Some(carried.kept)))
+    } else {
+        Ok((<SheetParts as SheetPart<A, M>>::carry(on, entries)?, None))
+    }
+}
+
+/// A sheet along the way of the edited one, and what is kept of it, in one walk over its cells.
 fn followed_and_kept<A: Axis, M: LineMap<A>>(
     alloc: Global,
     route: &Route<'_, A, M>,
     sheet: &Worksheet,
-) -> Result<(Worksheet, KeptCells), EditError>
+) -> Result<(Worksheet, Kept<PositionMap<Shared<Node>>>), EditError>
     requires { IsPlacedSheet sheet.now }
     ensures sheet { IfOk result (λ both. both.0 ≡ sheet_followed (way_on (way route.now) sheet.now) sheet.now) }
-    ensures lost { IfOk result (λ both. both.1.lost ≡ lost_map (place_goes (way_on (way route.now) sheet.now)) sheet.now.cells) }
-    ensures trees { IfOk result (λ both. both.1.parts ≡ trees_kept (way route.now) sheet.now) }
-    ensures numbers { IfOk result (λ both. AreCanonicalFormulas both.1.parts) }
+    ensures edited { IfOk result (λ both. both.1.edited ≡ then_some (sheet.now.id == (way route.now).sheet) (kept_of (way_on (way route.now) sheet.now) sheet.now)) }
+    ensures fits { IfOk result (λ both. IfSome both.1.edited (LinesFit (way route.now))) }
+    ensures trees { IfOk result (λ both. both.1.formulas ≡ trees_kept (way route.now) sheet.now) }
+    ensures numbers { IfOk result (λ both. AreCanonicalFormulas both.1.formulas) }
     ensures only { IsOkUnless result NoMemory }
 {
-    let (there, map) = (route_on(route, sheet), sheet.cell_map());
-    // For the proof: what lies inside.
-    places_inside(map);
-    let (cells, kept) = carried_with_kept(alloc, &there, map)?;
-    let followed = followed_with(alloc, &there, sheet, cells)?;
-    Ok((followed, kept))
+    let (on, cells) = (on_sheet(alloc, route, sheet), sheet.cell_map());
+    // For the proof: the route is a way, and what lies inside.
+    route.is_way();
+    is_sound(sheet);
+    places_inside(cells);
+    let (cells, kept) = carried_with_kept(alloc, &on.route, cells)?;
+    let entries = SheetEntries::of_cells(alloc, cells);
+    let (entries, edited) = parts_with_kept(&on, entries, kept.lost)?;
+    let (followed, formulas) = (sheet.with_entries(entries)?, kept.parts);
+    Ok((followed, Kept { edited, formulas }))
 }
 
-/// What is kept of the cells of some sheets, and what of one sheet more.
-fn with_sheet<A: Axis, M: LineMap<A>>(
-    route: &Route<'_, A, M>,
-    kept: KeptOfCells,
-    sheet: &Worksheet,
-    more: KeptCells,
-) -> Result<KeptOfCells, EditError>
-    ensures lost { IfOk result (λ all. all.lost ≡ option_or kept.lost (then_some (sheet.now.id == (way route.now).sheet) more.lost)) }
-    ensures formulas { IfOk result (λ all. all.formulas ≡ put_under sheet.now.id more.parts kept.formulas) }
-    ensures only { IsOkUnless result NoMemory }
-{
-    let (id, mut formulas) = (sheet.get_sheet_id(), kept.formulas);
-    formulas.put_under(id, &more.parts)?;
-    let lost = kept.lost.or((id == route.sheet).then_some(more.lost));
-    Ok(KeptOfCells { lost, formulas })
-}
-
-/// The sheets along the way of the edited one, and what is kept of their cells, in one walk over the
-/// cells: the lost ones of the first sheet with the edited id, and the trees of each sheet's formulas
+/// The sheets along the way of the edited one, and what is kept of them, in one walk over their
+/// cells: of the first sheet with the edited id all but trees, and the trees of each sheet's formulas
 /// that go somewhere and that the way back does not give, under the id of the sheet and their places
 /// before.
 pub(crate) fn followed_with_kept<A: Axis, M: LineMap<A>>(
     alloc: Global,
     route: &Route<'_, A, M>,
     sheets: &[Worksheet],
-) -> Result<(Items<Worksheet>, KeptOfCells), EditError>
+) -> Result<(Items<Worksheet>, Kept<SheetPlaceMap<Shared<Node>>>), EditError>
     requires { AllByRecursion IsPlacedSheet sheets.now }
     ensures sheets { IfOk result (λ both. both.0 ≡ sheets_followed (way route.now) sheets.now) }
-    ensures lost { IfOk result (λ both. both.1.lost ≡ first_lost (way route.now) sheets.now) }
+    ensures edited { IfOk result (λ both. both.1.edited ≡ first_kept (way route.now) sheets.now) }
+    ensures fits { IfOk result (λ both. IfSome both.1.edited (LinesFit (way route.now))) }
     ensures formulas { IfOk result (λ both. both.1.formulas ≡ formulas_kept (way route.now) sheets.now) }
     ensures numbers { IfOk result (λ both. AreCanonicalFormulas both.1.formulas) }
     ensures only { IsOkUnless result NoMemory }
 {
-    let (mut output, lost) = (Items::empty(alloc), None);
-    let formulas = SheetPlaceMap::new(alloc);
-    let mut kept = KeptOfCells { lost, formulas };
+    let (mut output, mut edited) = (Items::empty(alloc), None);
+    let mut formulas = SheetPlaceMap::new(alloc);
     for sheet in sheets {
         let (followed, more) = followed_and_kept(alloc, route, sheet)?;
-        kept = with_sheet(route, kept, sheet, more)?;
+        formulas.put_under(sheet.get_sheet_id(), &more.formulas)?;
+        edited = edited.or(more.edited);
         output.push(followed)?;
     }
-    Ok((output, kept))
+    Ok((output, Kept { edited, formulas }))
 }
 
 fn followed_sheets<A: Axis, M: LineMap<A>>(

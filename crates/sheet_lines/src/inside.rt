@@ -1,6 +1,9 @@
 ghost use Rattle.line_map.specs.Keys.{KeysAre};
+ghost use Rattle.sheet_lines.specs.Sheets.{IsPlacedSheet};
+ghost use Rattle.sheet_lines.specs.Workbooks.{IsSoundSheet};
 
 use base_values::{KeyMap, MapKey};
+use sheet_grid::Worksheet;
 
 /// The keys of a map are such as it asks for: places of the sheet, or lines of the axis.
 pub fn places_inside<K: MapKey<V>, V>(map: &KeyMap<K, V>)
@@ -8,4 +11,17 @@ pub fn places_inside<K: MapKey<V>, V>(map: &KeyMap<K, V>)
 {
     // The promise is one of the type.
     let _ = map.iter();
+}
+
+/// What stands inside a sheet is sound.
+pub(crate) fn is_sound(sheet: &Worksheet)
+    requires { IsPlacedSheet sheet.now }
+    ensures { IsSoundSheet sheet.now }
+{
+    // The other promises are those of the types.
+    places_inside(sheet.cell_map());
+    places_inside(sheet.link_map());
+    places_inside(sheet.row_map());
+    places_inside(sheet.column_map());
+    let _ = sheet.conditional_formatting().as_slice();
 }

@@ -1,3 +1,6 @@
+ghost use Rattle.std.specs.Prelude.{◌≡◌};
+ghost use Rattle.sheet_lines.specs.Parts.{only_lost};
+
 use base_axis::MergeList;
 use base_maps::{IndexMap, NumberMap, PositionMap, SheetPlaceMap};
 use base_shared::Shared;
@@ -5,6 +8,7 @@ use base_values::Exact;
 use format_rules::ConditionalFormatting;
 use formula_tree::Node;
 use sheet_grid::{Cell, LineAttr, Link};
+use std::alloc::Global;
 
 /// What taking a line edit back does not give of a workbook. docs/MODEL.md has the rules.
 #[derive(Clone, PartialEq, Eq, Drop)]
@@ -23,6 +27,22 @@ pub struct KeptLines {
     /// Its conditional rules that do not come back, each whole, by their indexes in the list of the
     /// sheet's rules.
     pub formattings: IndexMap<ConditionalFormatting>,
+}
+
+impl KeptLines {
+    /// Lost cells, and nothing else.
+    pub(crate) fn of_cells(alloc: Global, cells: PositionMap<Shared<Cell>>) -> KeptLines
+        ensures { result ≡ only_lost cells }
+    {
+        KeptLines {
+            cells,
+            links: PositionMap::new(alloc),
+            lines: NumberMap::new(alloc),
+            formulas: SheetPlaceMap::new(alloc),
+            merges: None,
+            formattings: IndexMap::new(alloc),
+        }
+    }
 }
 
 impl Exact for KeptLines {

@@ -10,9 +10,10 @@ mod back;
 mod edit;
 mod followed;
 mod inside;
-mod keeping;
 mod kept;
 mod laws;
+mod part;
+mod parts;
 mod sheets;
 mod workbook;
 

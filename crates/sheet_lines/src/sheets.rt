@@ -8,6 +8,7 @@ use line_map::{LineEdit, LineMap, Route};
 use line_routes::edit_route;
 use sheet_grid::{Workbook, Worksheet};
 use sheet_ids::name_of;
+use std::alloc::Global;
 
 /// The route of an edit of the lines of the sheet of an id.
 pub(crate) fn book_route<'e, A: Axis>(
@@ -23,15 +24,29 @@ pub(crate) fn book_route<'e, A: Axis>(
     edit_route(edit, opposite).of_sheet(sheet_id, name_of(workbook, sheet_id))
 }
 
+/// A sheet of the workbook, and the route of what stands on it.
+#[derive(Drop)]
+pub(crate) struct OnSheet<'s, A: Axis, M: LineMap<A>> {
+    pub(crate) alloc: Global,
+    pub(crate) route: Route<'s, A, M>,
+    pub(crate) sheet: &'s Worksheet,
+}
+
 /// How what meets the edited sheet so meets a sheet.
-pub(crate) fn route_on<'s, 'a: 's, A: Axis, M: LineMap<A>>(
+pub(crate) fn on_sheet<'s, 'a: 's, A: Axis, M: LineMap<A>>(
+    alloc: Global,
     route: &Route<'a, A, M>,
     sheet: &'s Worksheet,
-) -> Route<'s, A, M>
-    ensures way { way result ≡ way_on (way route.now) sheet.now }
-    ensures is { IsWay (way result) }
+) -> OnSheet<'s, A, M>
+    ensures sheet { result.sheet.now ≡ sheet.now }
+    ensures way { way result.route ≡ way_on (way route.now) sheet.now }
+    ensures is { IsWay (way result.route) }
 {
-    let there = route.on(sheet.get_sheet_id(), sheet.get_name());
-    there.is_way(); // for the proof
-    there
+    let route = route.on(sheet.get_sheet_id(), sheet.get_name());
+    route.is_way(); // for the proof
+    OnSheet {
+        alloc,
+        route,
+        sheet,
+    }
 }

@@ -24,7 +24,7 @@ use Rattle.defined_names.specs.declared.DefinedName.{DefinedName}
 use Rattle.defined_names.specs.Names.{IsCanonicalName, AreCanonicalNames}
 use Rattle.sheet_grid.specs.declared.Cell.{Cell}
 use Rattle.sheet_grid.specs.CanonicalCell.{IsCanonicalCell, CanonicalCells}
-use Rattle.sheet_lines.specs.CanonicalNumbers.{AreCanonicalFormulas}
+use Rattle.sheet_lines.specs.Back.{AreCanonicalFormulas}
 use Rattle.sheet_lines.specs.laws.Stays.{HasCanonicalNumbers}
 use Rattle.book_names.specs.laws.Names.{part_is, name_parts_are}
 use Rattle.book_names.specs.Renaming.{cell_renamed, cells_renamed, cell_kept, cells_kept, cell_back, cells_back}

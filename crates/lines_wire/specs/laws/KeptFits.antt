@@ -6,7 +6,7 @@ use Rattle.formula_tree.specs.declared.Node.{Node}
 use Rattle.format_rules.specs.declared.ConditionalFormatting.{ConditionalFormatting}
 use Rattle.format_rules.specs.Canonical.{IsCanonicalFormatting}
 use Rattle.sheet_lines.specs.declared.KeptLines.{KeptLines}
-use Rattle.sheet_lines.specs.CanonicalNumbers.{AreCanonicalFormulas, AreCanonicalLines}
+use Rattle.sheet_lines.specs.Back.{AreCanonicalFormulas, AreCanonicalLines}
 use Rattle.formula_wire.specs.Carried.{FitsNode}
 use Rattle.formula_wire.specs.laws.CanonicalLaws.{canonical_from_carried}
 use Rattle.cell_wire.specs.CellBytes.{FitsCell, FitsPosition}

@@ -13,10 +13,9 @@ use crate::cell_map::CellMap;
 use crate::line_attr::LineAttr;
 use crate::link::Link;
 use crate::sheet_entries::SheetEntries;
-use base_axis::{AxisMap, ColumnAxis, MergeList, RowAxis};
+use base_axis::{AxisMap, ColumnAxis, RowAxis};
 use base_shared::Shared;
 use base_values::{EditError, Items, PlaceMap, Position, copy_of};
-use format_rules::RuleList;
 
 impl Worksheet {
     /// The cells by their places.

@@ -57,7 +57,7 @@ use Rattle.sheet_rules.specs.laws.WellFormedLaws.{cells_fit_from_trees, distinct
 use Rattle.sheet_lines.specs.declared.KeptLines.{KeptLines}
 use Rattle.sheet_ids.specs.Ids.{sheet_of, name_of}
 use Rattle.sheet_lines.specs.Followed.{way_of, book_way, sheet_followed, book_followed}
-use Rattle.sheet_lines.specs.Kept.{lines_of, of_sheet, merges_kept, formattings_kept, kept_lines}
+use Rattle.sheet_lines.specs.Kept.{lines_of, edited_kept, kept_lines}
 use Rattle.sheet_lines.specs.Back.{book_back}
 use Rattle.sheet_lines.specs.laws.Regained.{book_regained, formulas_at}
 use Rattle.sheet_lines.specs.laws.Stays.{way_is}
@@ -269,7 +269,7 @@ module _ (a : Along) (l : IsAxis a) (e : EditKind) (valid : IsValid a.last e) (i
             let own = (lost_entry position_cmp position_total exact_positions (place_image a (image_at a.last e)) s.cells p cell is).0 in
             shallow_entry p (Some cell) (sym (ap (entry_fits_at p) own) ∙ fit p)
 
-        cell_shallow : (p : Position) (o : Option Sheet) → sheet_of book id ≡ o → IsTrue (is_shallow_entry (get (of_sheet (λ (sheet : Sheet). lost_map (place_image a (edit_moves a.last e).to) sheet.cells) o) p))
+        cell_shallow : (p : Position) (o : Option Sheet) → sheet_of book id ≡ o → IsTrue (is_shallow_entry (get (edited_kept (book_way a e id book) o).cells p))
         cell_shallow p None none = ap is_shallow_entry (get-empty position_cmp p)
         cell_shallow p (Some s) there = entry_shallow s (sheet_fits id s there) p _ refl
 
@@ -278,7 +278,7 @@ module _ (a : Along) (l : IsAxis a) (e : EditKind) (valid : IsValid a.last e) (i
         tree_shallow key (Some tree) is = shallow_where_fits key.place (Formula tree) (cell_tree_fits book rules key tree (of_cell key tree is))
 
         rule_shallow : (index : ℕ) (o : Option Sheet) → sheet_of book id ≡ o →
-            IfSome (get (formattings_kept (book_way a e id book) o) index) (λ formatting. IsTrue (is_shallow_rule formatting))
+            IfSome (get (edited_kept (book_way a e id book) o).formattings index) (λ formatting. IsTrue (is_shallow_rule formatting))
         rule_shallow index None none = subst (λ o. IfSome o (λ formatting. IsTrue (is_shallow_rule formatting))) (sym (get-empty nat_cmp index)) tt
         rule_shallow index (Some s) there =
             kept_known (λ formatting. IsTrue (is_shallow_rule formatting)) (way_in s) s.formattings (passing_rules is_shallow_rule s.formattings (all_shallow s.formattings (sheet_rules_stand book rules id s there))) index
@@ -290,9 +290,9 @@ module _ (a : Along) (l : IsAxis a) (e : EditKind) (valid : IsValid a.last e) (i
       kept_on_lost =
           let to : Position → Option Position = place_image a (image_at a.last e) in
           let inside : StandsInside sheet = sheet_inside id sheet found in
-          λ i. ((ap (λ o. all_keys (is_lost_place a e) (of_sheet (λ (s : Sheet). lost_map to s.cells) o)) found ∙ lost_keys position_cmp position_total exact_positions to sheet.cells is_place inside.cells) i
-          && (ap (λ o. all_keys (is_lost_place a e) (of_sheet (λ (s : Sheet). lost_map to s.links) o)) found ∙ lost_keys position_cmp position_total exact_positions to sheet.links is_place inside.links) i)
-          && ((ap (λ o. all_keys (is_lost_line a e) (of_sheet (λ (s : Sheet). lost_map (image_at a.last e) (lines_of a s)) o)) found
+          λ i. ((ap (λ o. all_keys (is_lost_place a e) (edited_kept (book_way a e id book) o).cells) found ∙ lost_keys position_cmp position_total exact_positions to sheet.cells is_place inside.cells) i
+          && (ap (λ o. all_keys (is_lost_place a e) (edited_kept (book_way a e id book) o).links) found ∙ lost_keys position_cmp position_total exact_positions to sheet.links is_place inside.links) i)
+          && ((ap (λ o. all_keys (is_lost_line a e) (edited_kept (book_way a e id book) o).lines) found
           ∙ lost_keys int_cmp int_cmp_total exact_signed (image_at a.last e) (lines_of a sheet) (is_line a.last) (lines_inside a l sheet inside)) i
           && trees_on_places book rules kept.formulas of_cell i)
 
@@ -306,17 +306,17 @@ module _ (a : Along) (l : IsAxis a) (e : EditKind) (valid : IsValid a.last e) (i
 
           arrays : list_all array_lies (entries kept.cells) ≡ true
           arrays =
-              ap (λ o. list_all array_lies (entries (of_sheet (λ (s : Sheet). lost_map (place_image a (image_at a.last e)) s.cells) o))) found
+              ap (λ o. list_all array_lies (entries (edited_kept (book_way a e id book) o).cells)) found
               ∙ all_entries position_cmp position_total exact_positions array_lies (lost_map (place_image a (image_at a.last e)) sheet.cells)
               (λ p cell there. array_inside sheet keeps.arrays p cell (lost_entry position_cmp position_total exact_positions (place_image a (image_at a.last e)) sheet.cells p cell there).0)
 
           parts : parts_inside kept.formattings ≡ true
           parts =
-              ap (λ o. parts_inside (formattings_kept (book_way a e id book) o)) found
+              ap (λ o. parts_inside (edited_kept (book_way a e id book) o).formattings) found
               ∙ kept_pass (way_in sheet) sheet.formattings has_parts (have_parts sheet.formattings (sheet_rules_stand book rules id sheet found))
 
           merges : merges_inside kept.merges ≡ true
-          merges = ap (λ o. merges_inside (merges_kept (book_way a e id book) o)) found ∙ part_inside (way_in sheet) sheet.merges (sheet_merges_inside sheet keeps.merges)
+          merges = ap (λ o. merges_inside (edited_kept (book_way a e id book) o).merges) found ∙ part_inside (way_in sheet) sheet.merges (sheet_merges_inside sheet keeps.merges)
 
       -- each kept conditional rule stands in the later workbook
       kept_rules_stand : formattings_stand kept.formattings (sheet_of later id) ≡ true
@@ -325,8 +325,8 @@ module _ (a : Along) (l : IsAxis a) (e : EditKind) (valid : IsValid a.last e) (i
           let w : Way = way_in sheet in
           let stand = sheet_rules_stand book rules id sheet found in
           ap (formattings_stand kept.formattings) (later_found id sheet found)
-          ∙ ap (λ o. are_there (formattings_kept (book_way a e id book) o) (length (sheet_followed w sheet).formattings)
-          && each_stands (formattings_kept (book_way a e id book) o)) found
+          ∙ ap (λ o. are_there (edited_kept (book_way a e id book) o).formattings (length (sheet_followed w sheet).formattings)
+          && each_stands (edited_kept (book_way a e id book) o).formattings) found
           ∙ (λ i. kept_there w sheet.formattings (length (sheet_followed w sheet).formattings) (sym (length-map sheet.formattings (formatting_carried w))) i
           && kept_pass w sheet.formattings rule_changes.may_stand stand i)
 
@@ -345,6 +345,6 @@ module _ (a : Along) (l : IsAxis a) (e : EditKind) (valid : IsValid a.last e) (i
           let inside : is_there_inside a (opposite_of e) (sheet_of later id) ≡ true =
           ap (is_there_inside a (opposite_of e)) (later_found id sheet found) ∙ back_inside (name_of (sheet_of book id)) sheet it e refl in
           let fit : cells_fit kept.cells ≡ true =
-          ap (λ o. cells_fit (of_sheet (λ (s : Sheet). lost_map (place_image a (image_at a.last e)) s.cells) o)) found ∙ kept_fit sheet (sheet_fits id sheet found) in
+          ap (λ o. cells_fit (edited_kept (book_way a e id book) o).cells) found ∙ kept_fit sheet (sheet_fits id sheet found) in
           let goes : goes_back a id e kept later ≡ true = λ i. valid i && inside i && (kept_on_lost i && kept_lie_inside i) && (fit i && kept_formulas_stand i && kept_rules_stand i) in
           ap (λ b. if b then Ok (book_back a e id kept later) else Err (DiffRefused 0 at)) goes ∙ ap Ok (book_regained a l e valid id book (distinct_ids_from_well_formed book rules))

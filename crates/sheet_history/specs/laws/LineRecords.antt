@@ -10,7 +10,7 @@ use Rattle.sheet_grid.specs.Book.{Book}
 use Rattle.sheet_rules.specs.WellFormed.{broken_rule, IsWellFormed}
 use Rattle.sheet_lines.specs.Followed.{book_followed}
 use Rattle.sheet_lines.specs.Kept.{kept_lines}
-use Rattle.sheet_lines.specs.CanonicalNumbers.{AreCanonicalLines}
+use Rattle.sheet_lines.specs.Back.{AreCanonicalLines}
 use Rattle.sheet_ids.specs.Ids.{sheet_of}
 use Rattle.sheet_history.specs.declared.diff.LineAxis.{LineAxis}
 use Rattle.sheet_history.specs.declared.diff.LineAxis.TheVariants.{Rows, Columns}

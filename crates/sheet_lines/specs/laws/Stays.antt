@@ -13,8 +13,9 @@ use Rattle.base_values.specs.laws.Places.{position_total, exact_positions}
 use Rattle.base_axis.specs.Along.{Along, IsAxis, rows, columns}
 use Rattle.base_axis.specs.declared.MergedCell.{MergedCell}
 use Rattle.base_maps.specs.Carried.{if_there, lost_map, overlaid, settled}
+use Rattle.base_maps.specs.SheetPlaces.{sheet_place_cmp}
 use Rattle.base_maps.specs.Tagged.{place_on}
-use Rattle.base_maps.specs.laws.Each.{Each, each_found, each_from, each_gathered, each_overlaid, holds_of, keys_lost, no_entry}
+use Rattle.base_maps.specs.laws.Each.{Each, each_found, each_from, each_gathered, each_lost, each_overlaid, holds_of, keys_lost, no_entry}
 use Rattle.base_maps.specs.laws.Inverses.{own_inverse, turned_inverse}
 use Rattle.formula_tree.specs.declared.Node.{Node}
 use Rattle.formula_tree.specs.declared.numbers.NumberRule.TheVariants.{Canonical}
@@ -28,14 +29,13 @@ use Rattle.format_rules.specs.declared.ConditionalFormatting.{ConditionalFormatt
 use Rattle.sheet_grid.specs.declared.Cell.{Cell}
 use Rattle.sheet_grid.specs.CanonicalCell.{IsCanonicalCell, CanonicalCells}
 use Rattle.sheet_grid.specs.Sheet.{Sheet}
-use Rattle.sheet_grid.specs.Book.{Book}
 use Rattle.line_edits.specs.declared.EditKind.{EditKind}
 use Rattle.line_edits.specs.Edit.{IsValid}
 use Rattle.line_edits.specs.Moves.{edit_moves, place_image}
 use Rattle.line_edits.specs.laws.OneToOne.{edit_one_to_one}
 use Rattle.line_map.specs.Attributes.{LinesLie}
 use Rattle.line_map.specs.Contents.{cell_carried, cell_part, cell_restored}
-use Rattle.line_map.specs.Maps.{places_carried, places_parts, places_restored, KeysInside}
+use Rattle.line_map.specs.Maps.{lost_along, places_carried, places_parts, places_restored}
 use Rattle.line_routes.specs.Merges.{merges_carried, merges_part, MergesLie}
 use Rattle.line_routes.specs.Trees.{following, tree_carried, tree_part}
 use Rattle.line_routes.specs.Way.{Way, IsWay, at, back, place_goes}
@@ -45,13 +45,13 @@ use Rattle.line_routes.specs.laws.TreeLaws.{tree_restores}
 use Rattle.line_routes.specs.laws.WayLaws.{at_is_way, back_is_way, goes_inverse}
 use Rattle.rule_lines.specs.Canonical.{KeptLie}
 use Rattle.rule_lines.specs.Rules.{rules_restored, RulesLie}
-use Rattle.rule_lines.specs.laws.RuleLaws.{restored_lie, rules_stay}
+use Rattle.rule_lines.specs.laws.RuleLaws.{kept_numbers, restored_lie, rules_stay}
 use Rattle.sheet_lines.specs.declared.kept.KeptLines.{KeptLines}
-use Rattle.sheet_lines.specs.Back.{lost_along, merges_back, formattings_back, sheet_back, sheets_back, LieInside, ArePlacedLines}
+use Rattle.sheet_lines.specs.Back.{AreCanonicalFormulas, sheet_back, sheets_back, LieInside, ArePlacedLines}
+use Rattle.sheet_lines.specs.Part.{merges_back, formattings_back}
+use Rattle.sheet_lines.specs.Workbooks.{IsSoundSheet, LinesFit}
 use Rattle.sheet_lines.specs.Followed.{edited_way, way_of, way_on, sheet_followed, sheets_followed}
-use Rattle.sheet_lines.specs.Kept.{of_sheet, lines_of, lost_of, merges_kept, lines_kept}
-use Rattle.sheet_lines.specs.CanonicalNumbers.{AreCanonicalFormulas}
-use Rattle.sheet_ids.specs.Ids.{sheet_of}
+use Rattle.sheet_lines.specs.Kept.{lines_of, kept_of}
 use Rattle.sheet_lines.specs.Sheets.{IsPlacedCell, IsPlacedSheet}
 
 -- ---- cells
@@ -193,21 +193,31 @@ module _ (w : Way) (is : IsWay w) where
   pub followed_placed : (sheets : List Sheet) → AllByRecursion IsPlacedSheet sheets → AllByRecursion IsPlacedSheet (sheets_followed w sheets)
   followed_placed = all_mapped IsPlacedSheet (λ sheet. sheet_followed (way_on w sheet) sheet) sheet_placed
 
-  -- what is kept of the edited sheet lies inside
-  pub kept_inside : (book : Book) (sheet : Sheet) → sheet_of book w.sheet ≡ Some sheet → KeysInside sheet.cells → KeysInside sheet.links →
-      LinesLie rows sheet.rows → LinesLie columns sheet.columns → MergesLie sheet.merges → LieInside w.along (lines_kept w book)
-  kept_inside book sheet found cells links in_rows in_columns merges = record {
-    cells = subst (λ o. KeysInside (of_sheet (λ s. lost_of w s.cells) o)) (sym found)
-        (keys_lost position_cmp position_total exact_positions IsPlace (place_image w.along w.moves.to) sheet.cells cells);
-    links = subst (λ o. KeysInside (of_sheet (λ s. lost_of w s.links) o)) (sym found)
-        (keys_lost position_cmp position_total exact_positions IsPlace (place_image w.along w.moves.to) sheet.links links);
-    lines = subst (λ o. LinesLie w.along (of_sheet (λ s. lost_map w.moves.to (lines_of w.along s)) o)) (sym found)
-        (lost_lines_lie w.along is.axis sheet in_rows in_columns w.moves.to);
-    merges = subst (λ o. IfSome (merges_kept w o) MergesLie) (sym found)
-        (holds_of MergesLie (merges_part (way_on w sheet) sheet.merges) (merges_part_fits (way_on w sheet) (is_way_on sheet) sheet.merges merges));
+  -- what is kept of a sound sheet can be laid over the workbook
+  pub sheet_kept_fits : (sheet : Sheet) → IsSoundSheet sheet → LinesFit w (kept_of (way_on w sheet) sheet)
+  sheet_kept_fits sheet it = record {
+    numbers = record {
+      cells = each_lost position_cmp position_total exact_positions (λ _. IsCanonicalCell) (place_image w.along w.moves.to) sheet.cells it.numbers;
+      formulas = no_entry sheet_place_cmp (λ _. HasCanonicalNumbers);
+      formattings = kept_numbers (way_on w sheet) sheet.formattings it.rules;
+    };
+    inside = record {
+      cells = keys_lost position_cmp position_total exact_positions IsPlace (place_image w.along w.moves.to) sheet.cells it.cells;
+      links = keys_lost position_cmp position_total exact_positions IsPlace (place_image w.along w.moves.to) sheet.links it.links;
+      lines = lost_lines_lie w.along is.axis sheet it.rows it.columns w.moves.to;
+      merges = holds_of MergesLie (merges_part (way_on w sheet) sheet.merges) (merges_part_fits (way_on w sheet) (is_way_on sheet) sheet.merges it.placed.merges);
+    };
   }
 
-  -- so do those that are taken back, with cells, trees and conditional rules that may stand where they stood
+  -- so it can with canonical trees
+  pub fits_with_formulas : (kept : KeptLines) → LinesFit w kept → (formulas : FinMap sheet_place_cmp Node) → AreCanonicalFormulas formulas →
+      LinesFit w (record kept { formulas = formulas })
+  fits_with_formulas kept fit formulas canonical = record {
+    numbers = record { cells = fit.numbers.cells; formulas = canonical; formattings = fit.numbers.formattings };
+    inside = record { cells = fit.inside.cells; links = fit.inside.links; lines = fit.inside.lines; merges = fit.inside.merges };
+  }
+
+  -- sheets that are taken back stay placed, with cells, trees and conditional rules that may stand where they stood
   pub back_placed : (kept : KeptLines) → LieInside w.along kept → ArePlacedLines kept → (sheets : List Sheet) → AllByRecursion IsPlacedSheet sheets →
       AllByRecursion IsPlacedSheet (sheets_back w kept sheets)
   back_placed kept inside lines = all_mapped IsPlacedSheet (λ sheet. sheet_back (way_on w sheet) kept sheet)

@@ -9,30 +9,26 @@ use Rattle.base_values.specs.laws.Places.{position_total, exact_positions}
 use Rattle.base_axis.specs.Along.{rows, columns}
 use Rattle.base_axis.specs.laws.Lawful.{rows_lawful, columns_lawful}
 use Rattle.base_maps.specs.Carried.{if_there}
-use Rattle.base_maps.specs.laws.Each.{each_lost}
 use Rattle.base_maps.specs.laws.Found.{found_holds}
 use Rattle.base_maps.specs.laws.CarriedLaws.{get-parts_map}
-use Rattle.line_edits.specs.Moves.{place_image}
 use Rattle.line_map.specs.Contents.{cell_carried, cell_part}
 use Rattle.line_map.specs.Maps.{entry_part}
 use Rattle.line_map.specs.laws.AttributeLaws.{lines_stay}
 use Rattle.line_map.specs.laws.MapLaws.{places_stay as map_stays}
 use Rattle.line_routes.specs.Way.{Way, IsWay, back, at, place_goes}
-use Rattle.rule_lines.specs.Canonical.{AreCanonicalKept}
-use Rattle.rule_lines.specs.laws.RuleLaws.{kept_numbers, rules_numbers}
-use Rattle.sheet_grid.specs.CanonicalCell.{IsCanonicalCell, CanonicalCells}
+use Rattle.rule_lines.specs.laws.RuleLaws.{rules_numbers}
+use Rattle.sheet_grid.specs.CanonicalCell.{IsCanonicalCell}
 use Rattle.sheet_grid.specs.contracts.line_attr.LineAttrPartialEq.TheImpl as attribute
 use Rattle.sheet_grid.specs.Sheet.{Sheet}
 use Rattle.sheet_grid.specs.Book.{Book}
 use Rattle.sheet_lines.specs.declared.kept.KeptLines.{KeptLines}
-use Rattle.sheet_lines.specs.Back.{book_restored}
-use Rattle.sheet_lines.specs.CanonicalNumbers.{AreCanonicalFormulas}
+use Rattle.sheet_lines.specs.Back.{AreCanonicalFormulas, book_restored}
 use Rattle.sheet_lines.specs.Followed.{way_on, sheet_followed, sheets_followed, book_carried}
-use Rattle.sheet_lines.specs.Kept.{of_sheet, lost_of, formulas_kept, formattings_kept, lines_kept}
+use Rattle.sheet_lines.specs.Kept.{kept_of, edited_kept, formulas_kept, lines_kept}
 use Rattle.sheet_ids.specs.Ids.{sheet_of}
 use Rattle.sheet_lines.specs.Workbooks.{IsSoundSheet, SheetsLie, LinesFit}
 use Rattle.sheet_lines.specs.laws.Regained.{found_carried, formulas_at, sheets_regained}
-use Rattle.sheet_lines.specs.laws.Stays.{HasCanonicalNumbers, all_mapped, followed_are, is_way_on, kept_inside, numbers_stay, parts_kept, sheet_placed}
+use Rattle.sheet_lines.specs.laws.Stays.{HasCanonicalNumbers, all_mapped, fits_with_formulas, followed_are, is_way_on, numbers_stay, parts_kept, sheet_kept_fits, sheet_placed}
 
 module _ (w : Way) (is : IsWay w) where
   -- a sheet that follows stays sound
@@ -83,15 +79,9 @@ module _ (w : Way) (is : IsWay w) where
 
       fits : (o : Option Sheet) → sheet_of book w.sheet ≡ o → IsTrue (is_some o) → LinesFit w (lines_kept w book)
       fits None found there = absurd (cc)
-      fits (Some sheet) found there = let it : IsSoundSheet sheet = sound w.sheet (Some sheet) found in record {
-        numbers = record {
-          cells = subst (λ o. CanonicalCells (of_sheet (λ s. lost_of w s.cells) o)) (sym found)
-              (each_lost position_cmp position_total exact_positions (λ _. IsCanonicalCell) (place_image w.along w.moves.to) sheet.cells it.numbers);
-          formulas = formulas;
-          formattings = subst (λ o. AreCanonicalKept (formattings_kept w o)) (sym found) (kept_numbers (way_on w sheet) sheet.formattings it.rules);
-        };
-        inside = kept_inside w is book sheet found it.cells it.links it.rows it.columns it.placed.merges;
-      }
+      fits (Some sheet) found there = subst (λ o. LinesFit w (record (edited_kept w o) { formulas = formulas_kept w book.worksheets })) (sym found)
+          (fits_with_formulas w is (kept_of (way_on w sheet) sheet) (sheet_kept_fits w is sheet (sound w.sheet (Some sheet) found))
+          (formulas_kept w book.worksheets) formulas)
 
   pub book_restores : (book : Book) → SheetsLie w book → (kept : KeptLines) → Some (lines_kept w book) ≡ Some kept →
       book_restored w (book_carried w book) kept ≡ book

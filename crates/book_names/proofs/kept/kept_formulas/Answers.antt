@@ -6,7 +6,7 @@ use Rattle.base_maps.specs.laws.Each.{no_entry}
 use Rattle.base_maps.specs.laws.Tagged.{all_under_none, all_under_more, put_under_are}
 use Rattle.formula_tree.specs.Numbers.{has_canonical_numbers}
 use Rattle.sheet_grid.specs.Sheet.{Sheet}
-use Rattle.sheet_lines.specs.CanonicalNumbers.{AreCanonicalFormulas}
+use Rattle.sheet_lines.specs.Back.{AreCanonicalFormulas}
 use Rattle.book_names.specs.Renaming.{cells_kept}
 use Rattle.book_names.proofs.kept.kept_formulas.Goals as goal
 

@@ -1,5 +1,5 @@
 use Rattle.std.proofs.Common.{◌≡◌, take}
-use Rattle.sheet_lines.specs.CanonicalNumbers.{AreCanonicalFormulas}
+use Rattle.sheet_lines.specs.Back.{AreCanonicalFormulas}
 use Rattle.book_names.specs.Renaming.{formulas_kept}
 use Rattle.book_names.proofs.kept.kept_formulas.Given as goal
 

@@ -1,6 +1,6 @@
 use Rattle.std.proofs.Common.{sym, subst}
 use Rattle.std.proofs.lemmas.Result.{IfOk-weaker}
-use Rattle.sheet_lines.specs.CanonicalNumbers.{AreCanonicalFormulas}
+use Rattle.sheet_lines.specs.Back.{AreCanonicalFormulas}
 use Rattle.book_names.specs.laws.Numbers.{cells_kept_numbers}
 use Rattle.book_names.proofs.kept.kept_of_sheet.Goals as goal
 

@@ -1,6 +1,6 @@
 ghost use Rattle.std.specs.Prelude.{IfOk};
 ghost use Rattle.sheet_rules.specs.WellFormed.{IsWellFormed};
-ghost use Rattle.sheet_lines.specs.CanonicalNumbers.{AreCanonicalLines};
+ghost use Rattle.sheet_lines.specs.Back.{AreCanonicalLines};
 ghost use Rattle.sheet_history.specs.Diffs.{IsCanonicalDiff, IsCanonicalList};
 
 use base_axis::{MergeList, MergedCell};

@@ -3,7 +3,7 @@ use Rattle.std.specs.Prelude.{IsTrue}
 use Rattle.std.specs.Ordering.{nat_cmp}
 use Rattle.base_maps.specs.laws.Each.{no_entry}
 use Rattle.formula_tree.specs.Numbers.{has_canonical_numbers}
-use Rattle.sheet_lines.specs.CanonicalNumbers.{AreCanonicalFormulas}
+use Rattle.sheet_lines.specs.Back.{AreCanonicalFormulas}
 use Rattle.name_edits.proofs.kept.trees_lost.Goals as goal
 
 pub returns-clause-numbers : goal.returns-clause-numbers

@@ -24,7 +24,7 @@ use Rattle.sheet_grid.specs.Book.{Book}
 use Rattle.sheet_grid.specs.Sheet.{Sheet}
 use Rattle.sheet_grid.specs.contracts.line_attr.LineAttrPartialEq.TheImpl as attribute
 use Rattle.sheet_lines.specs.Followed.{book_way, way_of, way_of_edit}
-use Rattle.sheet_lines.specs.Kept.{lines_of, of_sheet, lost_of, merges_kept, formattings_kept}
+use Rattle.sheet_lines.specs.Kept.{lines_of, edited_kept}
 use Rattle.sheet_ids.specs.Ids.{sheet_of}
 use Rattle.sheet_lines.specs.laws.LinesAfter.{get-lines_carried}
 use Rattle.sheet_lines.specs.laws.Regained.{formulas_at}
@@ -70,28 +70,30 @@ pub returns-clause-lost_cells : goal.returns-clause-lost_cells
 returns-clause-lost_cells g c sheet found p =
     let a = g.A.Axis.along in
     let e = c.args.edit.now.kind in
-    ap (λ o. get (of_sheet (λ s. lost_of (book_way a e c.args.sheet_id c.args.workbook.now) s.cells) o) p) found
+    ap (λ o. get (edited_kept (book_way a e c.args.sheet_id c.args.workbook.now) o).cells p) found
     ∙ lost_entries a e c.args.sheet_id c.args.workbook.now sheet sheet.cells found p
 
 pub returns-clause-lost_links : goal.returns-clause-lost_links
 returns-clause-lost_links g c sheet found p =
     let a = g.A.Axis.along in
     let e = c.args.edit.now.kind in
-    ap (λ o. get (of_sheet (λ s. lost_of (book_way a e c.args.sheet_id c.args.workbook.now) s.links) o) p) found
+    ap (λ o. get (edited_kept (book_way a e c.args.sheet_id c.args.workbook.now) o).links p) found
     ∙ lost_entries a e c.args.sheet_id c.args.workbook.now sheet sheet.links found p
 
 pub returns-clause-lost_lines : goal.returns-clause-lost_lines
 returns-clause-lost_lines g c sheet found n =
     let a = g.A.Axis.along in
-    let to = (edit_moves a.last c.args.edit.now.kind).to in
-    ap (λ o. get (of_sheet (λ s. lost_map to (lines_of a s)) o) n) found ∙ get-lost_map int_cmp int_cmp_total exact_signed to (lines_of a sheet) n
+    let e = c.args.edit.now.kind in
+    ap (λ o. get (edited_kept (book_way a e c.args.sheet_id c.args.workbook.now) o).lines n) found
+    ∙ get-lost_map int_cmp int_cmp_total exact_signed (edit_moves a.last e).to (lines_of a sheet) n
 
 pub returns-clause-merges : goal.returns-clause-merges
-returns-clause-merges g c sheet found = ap (merges_kept (book_way g.A.Axis.along c.args.edit.now.kind c.args.sheet_id c.args.workbook.now)) found
+returns-clause-merges g c sheet found =
+    ap (λ o. (edited_kept (book_way g.A.Axis.along c.args.edit.now.kind c.args.sheet_id c.args.workbook.now) o).merges) found
 
 pub returns-clause-formattings : goal.returns-clause-formattings
 returns-clause-formattings g c sheet found =
-    ap (formattings_kept (book_way g.A.Axis.along c.args.edit.now.kind c.args.sheet_id c.args.workbook.now)) found
+    ap (λ o. (edited_kept (book_way g.A.Axis.along c.args.edit.now.kind c.args.sheet_id c.args.workbook.now) o).formattings) found
 
 pub returns-clause-kept_rules : goal.returns-clause-kept_rules
 returns-clause-kept_rules g c sheet found index rule =

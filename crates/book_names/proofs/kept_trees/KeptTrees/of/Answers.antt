@@ -1,5 +1,5 @@
 use Rattle.std.proofs.Common.{sym, subst}
-use Rattle.sheet_lines.specs.CanonicalNumbers.{AreCanonicalFormulas}
+use Rattle.sheet_lines.specs.Back.{AreCanonicalFormulas}
 use Rattle.book_names.specs.laws.Numbers.{names_kept_numbers}
 use Rattle.book_names.proofs.kept_trees.KeptTrees.of.Goals as goal
 

@@ -9,6 +9,7 @@ use Rattle.std.proofs.lemmas.Map.Lookups.{exact_signed}
 use Rattle.base_values.specs.declared.Position.{Position}
 use Rattle.base_axis.specs.Along.{Along}
 use Rattle.line_edits.specs.declared.EditKind.{EditKind}
+use Rattle.line_edits.specs.Edit.{image_at}
 use Rattle.base_maps.specs.laws.Gathering.{get-lost_map}
 use Rattle.sheet_grid.specs.declared.Cell.{Cell}
 use Rattle.sheet_grid.specs.declared.LineAttr.{LineAttr}
@@ -17,7 +18,6 @@ use Rattle.sheet_grid.specs.Sheet.{Sheet}
 use Rattle.sheet_grid.specs.Book.{Book}
 use Rattle.sheet_rules.specs.laws.EntryLaws.{both}
 use Rattle.sheet_rules.specs.WellFormed.{has_font, have_attributes, is_row, is_column, is_size, is_width, is_row_style, is_column_style, IsWellFormed}
-use Rattle.line_routes.specs.Way.{Way}
 use Rattle.sheet_lines.specs.Followed.{book_way}
 use Rattle.sheet_lines.specs.Kept.{lines_of, edited_kept, kept_lines}
 use Rattle.sheet_ids.specs.Ids.{sheet_of}
@@ -69,12 +69,12 @@ some_or_none : (b : Bool) (o : Option LineAttr) → IfSome o IsOwn → IfSome (c
 some_or_none true o own = own
 some_or_none false o own = tt
 
-lost_own : (w : Way) (o : Option Sheet) → ((sheet : Sheet) → o ≡ Some sheet → have_attributes sheet ≡ true) → (line : ℤ) → IfSome (get (edited_kept w o).lines line) IsOwn
-lost_own w None all line = subst (λ (o : Option LineAttr). IfSome o IsOwn) (sym (get-empty int_cmp line)) tt
-lost_own w (Some sheet) all line =
-    subst (λ (o : Option LineAttr). IfSome o IsOwn) (sym (get-lost_map int_cmp int_cmp_total exact_signed w.moves.to (lines_of w.along sheet) line))
-    (some_or_none (is_none (w.moves.to line)) (get (lines_of w.along sheet) line) (own_lines sheet (all sheet refl) (w.along.of true false) line))
+lost_own : (a : Along) (e : EditKind) (id : ℕ) (book : Book) (o : Option Sheet) → ((sheet : Sheet) → o ≡ Some sheet → have_attributes sheet ≡ true) → (line : ℤ) → IfSome (get (edited_kept (book_way a e id book) o).lines line) IsOwn
+lost_own a e id book None all line = subst (λ (o : Option LineAttr). IfSome o IsOwn) (sym (get-empty int_cmp line)) tt
+lost_own a e id book (Some sheet) all line =
+    subst (λ (o : Option LineAttr). IfSome o IsOwn) (sym (get-lost_map int_cmp int_cmp_total exact_signed (image_at a.last e) (lines_of a sheet) line))
+    (some_or_none (is_none (image_at a.last e line)) (get (lines_of a sheet) line) (own_lines sheet (all sheet refl) (a.of true false) line))
 
 -- of each line it keeps something of its own
 pub kept_of_lines : (a : Along) (e : EditKind) (id : ℕ) (book : Book) → IsWellFormed book → IsKeptOfLines (kept_lines a e id book)
-kept_of_lines a e id book rules = lost_own (book_way a e id book) (sheet_of book id) (λ sheet found. (sheet_rules book rules id sheet found).attributes)
+kept_of_lines a e id book rules = lost_own a e id book (sheet_of book id) (λ sheet found. (sheet_rules book rules id sheet found).attributes)

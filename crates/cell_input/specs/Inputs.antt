@@ -1,6 +1,6 @@
 -- Which content a text is read as, and which text a content is printed as.
-use Rattle.std.specs.Prelude.{◌≡◌, ℕ, Bool, true, false, ◌==◌, ◌||◌, List, [], ◌∷◌, Option, if◌then◌else◌, unwrap_or}
-use Rattle.std.specs.Option.{option_map, option_or}
+use Rattle.std.specs.Prelude.{◌≡◌, ℕ, Bool, false, ◌==◌, ◌||◌, List, [], ◌∷◌, Option, None, if◌then◌else◌, unwrap_or}
+use Rattle.std.specs.Option.{option_map, option_map_or, option_or}
 use Rattle.base_tables.specs.declared.Language.{Language}
 use Rattle.base_tables.specs.declared.Locale.{Locale}
 use Rattle.base_tables.specs.Error.{error_text, error_of_text}
@@ -15,6 +15,7 @@ use Rattle.formula_grammar.specs.declared.Profile.{Profile}
 use Rattle.cell_content.specs.declared.Content.{Content}
 use Rattle.cell_content.specs.declared.Content.TheVariants.{Empty, Number, Boolean, Error, Text, Formula, Dynamic, Array}
 use Rattle.cell_content.specs.CanonicalContent.{IsCanonicalContent}
+use Rattle.cell_content.specs.Lens.{tree_of}
 use Rattle.formula_read.specs.Formula.{formula_of}
 
 -- ---- reading
@@ -64,30 +65,21 @@ marked_text p text = if reads_as_text p text then text else 39 ∷ text
 abbrev pub formula_text : Profile → Node → List ℕ
 formula_text p tree = 61 ∷ localized_text p.place p.locale p.language tree
 
+-- the text of a content without a formula; an empty one has none
+abbrev pub value_text : Profile → Content → List ℕ
+value_text p (Number number) = printed (decimal_sign p.locale) number
+value_text p (Boolean value) = boolean_text p.language value
+value_text p (Error error) = error_text error
+value_text p (Text text) = marked_text p text
+value_text p content = []
+
+-- a content is printed as its formula, or as its value
 abbrev pub input_text : Profile → Content → List ℕ
-input_text p Empty = []
-input_text p (Number number) = printed (decimal_sign p.locale) number
-input_text p (Boolean value) = boolean_text p.language value
-input_text p (Error error) = error_text error
-input_text p (Text text) = marked_text p text
-input_text p (Formula tree) = formula_text p tree
-input_text p (Dynamic tree) = formula_text p tree
-input_text p (Array tree _ _) = formula_text p tree
+input_text p content = option_map_or (formula_text p) (tree_of content) (value_text p content)
 
 -- ---- what is read again
-
--- the content is no formula
-abbrev pub has_no_tree : Content → Bool
-has_no_tree Empty = true
-has_no_tree (Number _) = true
-has_no_tree (Boolean _) = true
-has_no_tree (Error _) = true
-has_no_tree (Text _) = true
-has_no_tree (Formula _) = false
-has_no_tree (Dynamic _) = false
-has_no_tree (Array _ _ _) = false
 
 -- what is printed of a content without a formula is read as that content
 abbrev pub IsReadAgain : Type 0
 IsReadAgain =
-    (p : Profile) (content : Content) → has_no_tree content ≡ true → IsCanonicalContent content → input_of p (input_text p content) ≡ content
+    (p : Profile) (content : Content) → tree_of content ≡ None → IsCanonicalContent content → input_of p (input_text p content) ≡ content

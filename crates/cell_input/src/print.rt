@@ -2,12 +2,12 @@ ghost use Rattle.std.specs.Prelude.{◌≡◌, ◌∷◌, ◌++◌, IfOk, OnOk, 
 ghost use Rattle.std.specs.String.{string_bytes};
 ghost use Rattle.base_values.specs.declared.error.EditError.TheVariants.{NoMemory};
 ghost use Rattle.formula_read.specs.Formula.{profile_of};
-ghost use Rattle.cell_input.specs.Inputs.{value_of_text, has_lead, reads_as_text, marked_text, formula_text, input_text, IsReadAgain};
+ghost use Rattle.cell_input.specs.Inputs.{value_of_text, has_lead, reads_as_text, marked_text, formula_text, value_text, input_text, IsReadAgain};
 
 use base_decimal::Decimal;
 use base_tables::{Language, Locale, read_boolean, read_error};
 use base_values::EditError;
-use cell_content::Content;
+use cell_content::{Content, tree_of};
 use formula_print::{push_localized_string, push_number};
 use formula_tree::{CellReferenceRC, Node};
 use std::alloc::{AllocError, Global};
@@ -73,6 +73,25 @@ fn push_formula(
     push_localized_string(out, tree, context, locale, language)
 }
 
+/// Writes the text of a content without a formula at the end: of an empty one nothing.
+fn push_value(
+    out: &mut String,
+    content: &Content,
+    context: &CellReferenceRC,
+    locale: Locale,
+    language: Language,
+) -> Result<(), AllocError>
+    ensures { OnOk result (string_bytes out.new ≡ string_bytes out.old ++ value_text (profile_of context.now locale language) content.now) }
+{
+    match content {
+        Content::Number(number) => push_number(out, number, locale),
+        Content::Boolean(value) => out.push_str(language.boolean(*value)),
+        Content::Error(error) => out.push_str(error.text()),
+        Content::Text(text) => push_text(out, text.as_str(), context, locale, language),
+        _ => Ok(()),
+    }
+}
+
 /// Writes the text of the content of a cell at the end: nothing where it is empty, a number in plain
 /// digits, a boolean's word in the language, the English text of an error, a text as it is, and a
 /// formula behind an equals sign. An apostrophe leads a text that would be read as anything else.
@@ -89,15 +108,9 @@ pub fn push_content(
     ensures value { OnOk result (string_bytes out.new ≡ string_bytes out.old ++ input_text (profile_of context.now locale language) content.now) }
     ensures memory { IsOkUnless result NoMemory }
 {
-    match content {
-        Content::Empty => Ok(()),
-        Content::Number(number) => Ok(push_number(out, number, locale)?),
-        Content::Boolean(value) => Ok(out.push_str(language.boolean(*value))?),
-        Content::Error(error) => Ok(out.push_str(error.text())?),
-        Content::Text(text) => Ok(push_text(out, text.as_str(), context, locale, language)?),
-        Content::Formula(tree) | Content::Dynamic(tree) | Content::Array { tree, .. } => {
-            push_formula(out, tree.get(), context, locale, language)
-        }
+    match tree_of(content) {
+        Some(tree) => push_formula(out, tree.get(), context, locale, language),
+        None => Ok(push_value(out, content, context, locale, language)?),
     }
 }
 

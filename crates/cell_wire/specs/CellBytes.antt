@@ -1,15 +1,16 @@
 -- The bytes of positions, contents and cells.
-use Rattle.std.specs.Prelude.{ℕ, ℤ, List, [], ◌∷◌, ◌++◌, FitsSigned, IsTrue}
+use Rattle.std.specs.Prelude.{ℕ, ℤ, List, [], ◌∷◌, ◌++◌, FitsSigned, IfSome, IsTrue}
+use Rattle.std.specs.Option.{option_map_or}
 use Rattle.std.specs.Int.{w32}
 use Rattle.base_values.specs.declared.Position.{Position}
 use Rattle.base_tables.specs.Error.{error_code}
 use Rattle.base_decimal.specs.Canonical.{IsCanonical}
-use Rattle.formula_tree.specs.declared.Node.{Node}
 use Rattle.cell_content.specs.declared.Content.{Content}
 use Rattle.cell_content.specs.declared.Content.TheVariants.{Empty, Number, Boolean, Error as ErrorValue, Text, Formula, Dynamic, Array}
 use Rattle.sheet_grid.specs.declared.Cell.{Cell}
 use Rattle.sheet_grid.specs.CanonicalCell.{IsCanonicalCell}
 use Rattle.cell_content.specs.Fitting.{is_shallow}
+use Rattle.cell_content.specs.Lens.{tree_of}
 use Rattle.base_wire.specs.Spelling.{spell_signed, spell_code, boolean_code, spell_text, FitsText}
 use Rattle.base_wire.specs.Parts.{spell_decimal}
 use Rattle.formula_wire.specs.NodeBytes.{spell_node}
@@ -29,37 +30,46 @@ pub record FitsPosition (place : Position) : Type 0 where
 
 -- ---- contents
 
--- the tree of a formula that fills an array, and how many columns wide and rows high the array is
-abbrev pub spell_array : Node → ℤ → ℤ → List ℕ
-spell_array tree width height = spell_node tree ++ (spell_signed w32 width ++ spell_signed w32 height)
+-- the kind of a content
+abbrev pub kind_code : Content → ℕ
+kind_code Empty = 0
+kind_code (Number number) = 1
+kind_code (Boolean value) = 2
+kind_code (ErrorValue error) = 3
+kind_code (Text text) = 4
+kind_code (Formula tree) = 5
+kind_code (Dynamic tree) = 6
+kind_code (Array tree width height) = 7
 
--- a tree that bytes can carry, and two numbers of 32 bits
-pub record FitsArray (node : Node) (columns rows : ℤ) : Type 0 where
-  pub tree : FitsNode node
+-- what a content holds besides a tree: an array how many columns wide and rows high it is
+abbrev pub spell_rest : Content → List ℕ
+spell_rest (Number number) = spell_decimal number
+spell_rest (Boolean value) = spell_code boolean_code value
+spell_rest (ErrorValue error) = spell_code error_code error
+spell_rest (Text text) = spell_text text
+spell_rest (Array tree width height) = spell_signed w32 width ++ spell_signed w32 height
+spell_rest content = []
+
+-- the kind, the tree of a formula, and what else it holds
+abbrev pub spell_content : Content → List ℕ
+spell_content content = kind_code content ∷ (option_map_or spell_node (tree_of content) [] ++ spell_rest content)
+
+-- two numbers of 32 bits
+pub record FitsSides (columns rows : ℤ) : Type 0 where
   pub width : FitsSigned w32 columns
   pub height : FitsSigned w32 rows
 
--- the kind, and then what it holds
-abbrev pub spell_content : Content → List ℕ
-spell_content Empty = 0 ∷ []
-spell_content (Number number) = 1 ∷ spell_decimal number
-spell_content (Boolean value) = 2 ∷ spell_code boolean_code value
-spell_content (ErrorValue error) = 3 ∷ spell_code error_code error
-spell_content (Text text) = 4 ∷ spell_text text
-spell_content (Formula tree) = 5 ∷ spell_node tree
-spell_content (Dynamic tree) = 6 ∷ spell_node tree
-spell_content (Array tree width height) = 7 ∷ spell_array tree width height
+-- a number is canonical, a text is one of Rust, and the sides of an array have 32 bits
+abbrev pub FitsRest : Content → Type 0
+FitsRest (Number number) = IsCanonical number
+FitsRest (Text text) = FitsText text
+FitsRest (Array tree width height) = FitsSides width height
+FitsRest content = Unit {0}
 
--- a number is canonical, a text is one of Rust, a tree one that bytes can carry, and the sides of an array have 32 bits
-abbrev pub FitsContent : Content → Type 0
-FitsContent Empty = Unit {0}
-FitsContent (Number number) = IsCanonical number
-FitsContent (Boolean value) = Unit {0}
-FitsContent (ErrorValue error) = Unit {0}
-FitsContent (Text text) = FitsText text
-FitsContent (Formula tree) = FitsNode tree
-FitsContent (Dynamic tree) = FitsNode tree
-FitsContent (Array tree width height) = FitsArray tree width height
+-- a tree is one that bytes can carry, and so is what else the content holds
+pub record FitsContent (content : Content) : Type 0 where
+  pub tree : IfSome (tree_of content) FitsNode
+  pub rest : FitsRest content
 
 -- ---- cells
 

@@ -5,11 +5,28 @@ ghost use Rattle.base_values.specs.Answers.{ok_or};
 ghost use Rattle.base_values.specs.declared.EditError.TheVariants.{ParseDiffs};
 ghost use Rattle.base_styles.specs.Colors.{theme_color_of_code};
 ghost use Rattle.base_wire.specs.laws.Reading.{decoded};
+ghost use Rattle.cell_wire.specs.CellBytes.{kind_code};
 ghost use Rattle.cell_wire.specs.StyleBytes.{border_code, horizontal_code, vertical_code};
 ghost use Rattle.cell_wire.specs.laws.Reading.{border_styles, horizontals, verticals};
 
 use base_styles::{BorderStyle, HorizontalAlignment, ThemeColor, VerticalAlignment};
 use base_values::EditError;
+use cell_content::Content;
+
+pub(crate) fn kind_code(content: &Content) -> u8
+    ensures { result ≡ kind_code content.now }
+{
+    match content {
+        Content::Empty => 0,
+        Content::Number(_) => 1,
+        Content::Boolean(_) => 2,
+        Content::Error(_) => 3,
+        Content::Text(_) => 4,
+        Content::Formula(_) => 5,
+        Content::Dynamic(_) => 6,
+        Content::Array { .. } => 7,
+    }
+}
 
 pub(crate) fn theme_of(code: u8) -> Result<ThemeColor, EditError>
     ensures { result ≡ ok_or ParseDiffs (theme_color_of_code code) }

@@ -1,7 +1,7 @@
 //! Positions and cells from the front of bytes.
 
 ghost use Rattle.base_values.specs.Answers.{Answers, map_ok};
-ghost use Rattle.cell_wire.specs.laws.Reading.{cell_at, array_at, content_at, position_at};
+ghost use Rattle.cell_wire.specs.laws.Reading.{cell_at, content_at, formula_at, position_at, sides_at};
 
 use crate::read::read;
 use crate::reading_styles::style_at;
@@ -10,8 +10,10 @@ use base_shared::Shared;
 use base_styles::Style;
 use base_tables::Error;
 use base_values::{EditError, Position, Text};
+use cell_content::Content;
+use formula_tree::Node;
 use formula_wire::NodePart;
-use sheet_grid::{Cell, Content};
+use sheet_grid::Cell;
 use std::alloc::Global;
 
 #[tactic(auto, unfolding(crate::specs::laws::Reading::position_at))]
@@ -23,12 +25,11 @@ pub(crate) fn position_at(alloc: Global, bytes: &[u8]) -> Result<(Position, &[u8
     Ok((Position { row, column }, rest))
 }
 
-/// The formula of an array, and the array's sides.
-fn array_at(alloc: Global, bytes: &[u8]) -> Result<(Content, &[u8]), EditError>
-    ensures { Answers (map_ok (λ x. (x.0, x.1.now)) result) (array_at bytes.now) }
+/// An array with this tree, by its sides.
+fn array_at(alloc: Global, tree: Shared<Node>, bytes: &[u8]) -> Result<(Content, &[u8]), EditError>
+    ensures { Answers (map_ok (λ x. (x.0, x.1.now)) result) (sides_at tree bytes.now) }
 {
-    let (tree, rest) = read::<Shared<NodePart>>(alloc, bytes)?;
-    let (width, rest) = read::<i32>(alloc, rest)?;
+    let (width, rest) = read::<i32>(alloc, bytes)?;
     let (height, rest) = read::<i32>(alloc, rest)?;
     let array = Content::Array {
         tree,
@@ -36,6 +37,18 @@ fn array_at(alloc: Global, bytes: &[u8]) -> Result<(Content, &[u8]), EditError>
         height,
     };
     Ok((array, rest))
+}
+
+/// A formula of a kind: its tree, and behind that of an array the sides.
+fn formula_at(alloc: Global, kind: u8, bytes: &[u8]) -> Result<(Content, &[u8]), EditError>
+    ensures { Answers (map_ok (λ x. (x.0, x.1.now)) result) (formula_at kind bytes.now) }
+{
+    let (tree, rest) = read::<Shared<NodePart>>(alloc, bytes)?;
+    match kind {
+        5 => Ok((Content::Formula(tree), rest)),
+        6 => Ok((Content::Dynamic(tree), rest)),
+        _ => array_at(alloc, tree, rest),
+    }
 }
 
 #[tactic(auto, unfolding(crate::specs::laws::Reading::content_at))]
@@ -61,15 +74,7 @@ fn content_at(alloc: Global, bytes: &[u8]) -> Result<(Content, &[u8]), EditError
             let (text, rest) = read::<Text>(alloc, rest)?;
             Ok((Content::Text(text), rest))
         }
-        5 => {
-            let (tree, rest) = read::<Shared<NodePart>>(alloc, rest)?;
-            Ok((Content::Formula(tree), rest))
-        }
-        6 => {
-            let (tree, rest) = read::<Shared<NodePart>>(alloc, rest)?;
-            Ok((Content::Dynamic(tree), rest))
-        }
-        7 => array_at(alloc, rest),
+        5 | 6 | 7 => formula_at(alloc, kind, rest),
         _ => Err(EditError::ParseDiffs),
     }
 }

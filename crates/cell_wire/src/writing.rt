@@ -1,22 +1,27 @@
 //! Styles, positions and cells at the end of bytes. Those of Rust's own types fit, where their numbers are
 //! canonical and their trees are at most 64 deep. Out of memory may leave some of their bytes there.
 
-ghost use Rattle.std.specs.Prelude.{◌≡◌, ◌++◌, IsTrue, OnOk};
+ghost use Rattle.std.specs.Prelude.{◌≡◌, ◌++◌, [], IfSome, IsTrue, OnOk};
+ghost use Rattle.std.specs.Int.{w32};
+ghost use Rattle.std.specs.Option.{option_map_or};
+ghost use Rattle.base_wire.specs.Spelling.{spell_signed};
 ghost use Rattle.cell_content.specs.Fitting.{is_shallow};
+ghost use Rattle.cell_content.specs.Lens.{tree_of};
 ghost use Rattle.cell_content.specs.CanonicalContent.{IsCanonicalContent};
-ghost use Rattle.formula_wire.specs.Carried.{IsKnownNode};
+ghost use Rattle.formula_wire.specs.Carried.{FitsNode};
+ghost use Rattle.formula_wire.specs.NodeBytes.{spell_node};
 ghost use Rattle.cell_wire.specs.StyleBytes.{spell_alignment, spell_border, spell_border_item, spell_color, spell_font, spell_style, FitsBorder, FitsBorderItem, FitsColor, FitsFont, FitsStyle};
-ghost use Rattle.cell_wire.specs.CellBytes.{spell_array, spell_cell, spell_content, spell_position, FitsArray, FitsCell, FitsContent, FitsPosition, IsKnownCell};
+ghost use Rattle.cell_wire.specs.CellBytes.{spell_cell, spell_content, spell_position, spell_rest, FitsCell, FitsContent, FitsPosition, FitsRest, FitsSides, IsKnownCell};
 
-use crate::codes::{border_code, horizontal_code, vertical_code};
+use crate::codes::{border_code, horizontal_code, kind_code, vertical_code};
 use crate::parts::{AlignmentPart, BorderItemPart};
 use base_decimal::Decimal;
 use base_styles::{Alignment, Border, BorderItem, Color, Font, Style};
 use base_values::{Position, Text};
 use base_wire::{Part, boolean_code};
-use formula_tree::Node;
+use cell_content::{Content, tree_of};
 use formula_wire::push_node;
-use sheet_grid::{Cell, Content};
+use sheet_grid::Cell;
 use std::alloc::AllocError;
 
 pub(crate) fn put_color(out: &mut Vec<u8>, color: Color) -> Result<(), AllocError>
@@ -91,55 +96,46 @@ pub(crate) fn put_position(out: &mut Vec<u8>, place: Position) -> Result<(), All
     out.extend_from_slice(&place.column.to_be_bytes())
 }
 
-fn put_array(out: &mut Vec<u8>, tree: &Node, width: i32, height: i32) -> Result<(), AllocError>
-    ensures spelled { OnOk result (out.new.items ≡ out.old.items ++ spell_array tree.now width height) }
-    ensures fits { OnOk result (IsKnownNode tree.now → FitsArray tree.now width height) }
+fn put_sides(out: &mut Vec<u8>, width: i32, height: i32) -> Result<(), AllocError>
+    ensures spelled { OnOk result (out.new.items ≡ out.old.items ++ (spell_signed w32 width ++ spell_signed w32 height)) }
+    ensures fits { OnOk result (FitsSides width height) }
 {
-    push_node(out, tree)?;
     out.extend_from_slice(&width.to_be_bytes())?;
     out.extend_from_slice(&height.to_be_bytes())
+}
+
+/// What a content holds besides a tree.
+fn put_rest(out: &mut Vec<u8>, content: &Content) -> Result<(), AllocError>
+    ensures spelled { OnOk result (out.new.items ≡ out.old.items ++ spell_rest content.now) }
+    ensures fits { OnOk result (IsCanonicalContent content.now → FitsRest content.now) }
+{
+    match content {
+        Content::Number(number) => Decimal::put(out, number),
+        Content::Boolean(value) => Ok(out.push(boolean_code(*value))?),
+        Content::Error(error) => Ok(out.push(error.code())?),
+        Content::Text(text) => Text::put(out, text),
+        Content::Array { width, height, .. } => put_sides(out, *width, *height),
+        _ => Ok(()),
+    }
+}
+
+fn put_tree(out: &mut Vec<u8>, content: &Content) -> Result<(), AllocError>
+    ensures spelled { OnOk result (out.new.items ≡ out.old.items ++ option_map_or spell_node (tree_of content.now) []) }
+    ensures fits { OnOk result (IsCanonicalContent content.now → IsTrue (is_shallow content.now) → IfSome (tree_of content.now) FitsNode) }
+{
+    match tree_of(content) {
+        Some(tree) => push_node(out, tree.get()),
+        None => Ok(()),
+    }
 }
 
 fn put_content(out: &mut Vec<u8>, content: &Content) -> Result<(), AllocError>
     ensures spelled { OnOk result (out.new.items ≡ out.old.items ++ spell_content content.now) }
     ensures fits { OnOk result (IsCanonicalContent content.now → IsTrue (is_shallow content.now) → FitsContent content.now) }
 {
-    match content {
-        Content::Empty => out.push(0)?,
-        Content::Number(number) => {
-            out.push(1)?;
-            Decimal::put(out, number)?;
-        }
-        Content::Boolean(value) => {
-            out.push(2)?;
-            out.push(boolean_code(*value))?;
-        }
-        Content::Error(error) => {
-            out.push(3)?;
-            out.push(error.code())?;
-        }
-        Content::Text(text) => {
-            out.push(4)?;
-            Text::put(out, text)?;
-        }
-        Content::Formula(tree) => {
-            out.push(5)?;
-            push_node(out, tree.get())?;
-        }
-        Content::Dynamic(tree) => {
-            out.push(6)?;
-            push_node(out, tree.get())?;
-        }
-        Content::Array {
-            tree,
-            width,
-            height,
-        } => {
-            out.push(7)?;
-            put_array(out, tree.get(), *width, *height)?;
-        }
-    }
-    Ok(())
+    out.push(kind_code(content))?;
+    put_tree(out, content)?;
+    put_rest(out, content)
 }
 
 pub(crate) fn put_cell(out: &mut Vec<u8>, cell: &Cell) -> Result<(), AllocError>

@@ -1,6 +1,5 @@
 -- Links that are put and taken away.
 use Rattle.std.proofs.Common.{ℕ, ℤ, Option, Result}
-use Rattle.std.specs.FinMap as fin
 use Rattle.base_values.specs.declared.EditError.{EditError}
 use Rattle.sheet_grid.specs.declared.Link.{Link}
 use Rattle.sheet_grid.specs.Sheet.{link_put}

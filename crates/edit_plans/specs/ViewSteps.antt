@@ -1,5 +1,5 @@
 -- What a user has selected after an edit.
-use Rattle.std.specs.Prelude.{ℕ, ◌+◌, ◌==◌, ℤ, pos, Bool, true, false, List, length, Result, Ok, Err, if◌then◌else◌}
+use Rattle.std.specs.Prelude.{ℕ, ◌+◌, ◌==◌, ℤ, pos, true, List, length, Result, Ok, Err, if◌then◌else◌}
 use Rattle.base_values.specs.declared.EditError.{EditError}
 use Rattle.std.specs.Option.{unwrap_or}
 use Rattle.base_axis.specs.Rectangles.{last_column, last_row}

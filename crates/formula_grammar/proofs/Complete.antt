@@ -20,7 +20,7 @@ use Rattle.formula_grammar.specs.declared.token.Token.TheVariants as t
 use Rattle.formula_grammar.specs.Operators.{infix_under, prefix_under, postfix_under, infix_token, prefix_token, postfix_token}
 use Rattle.formula_grammar.specs.Words.{separator_token, called, mark_place}
 use Rattle.formula_grammar.specs.Grammar as G
-use Rattle.formula_grammar.specs.Grammar.{Expression, Lambda, Arguments, Argument, parameters_tokens, rows_tokens, rows_lines, expression_tokens, lambda_tokens, arguments_tokens, argument_tokens, passed, expression_tree, lambda_tree, arguments_trees, argument_tree, expression_open, lambda_open, arguments_open, argument_open}
+use Rattle.formula_grammar.specs.Grammar.{Expression, Lambda, Arguments, Argument, parameters_tokens, expression_tokens, lambda_tokens, arguments_tokens, argument_tokens, passed, expression_tree, lambda_tree, arguments_trees, argument_tree, expression_open, lambda_open, arguments_open, argument_open}
 use Rattle.formula_grammar.specs.laws.Reading.{Outcome, and_then, with_rest, make, operator_of, operator_under, own, operator_at, sign_at, make_signed, signed_step, signed, opening, closing, is_empty_here, chain_from, reference_at, range_at, enclosed, argument, arguments_from, arguments_by, arguments, function, lambda_turn, lambda, call, primary, turn, expression, whole}
 use Rattle.formula_grammar.proofs.Depths.{depth_called, depth_infix, depth_postfix, depth_prefix, shallow_tree-shallow, expression_turns, lambda_turns, expression_turns-lt, lambda_turns-lt}
 use Rattle.formula_grammar.proofs.Steps.{chain_starts, chain_turns, chain_closes, chain_never}

@@ -20,7 +20,7 @@ use Rattle.formula_grammar.specs.declared.token.Token.TheVariants as t
 use Rattle.formula_grammar.specs.Operators.{prefix_under, infix_token, prefix_token, postfix_token}
 use Rattle.formula_grammar.specs.Words.{separator_token, is_lambda, called, mark_place, corner_of}
 use Rattle.formula_grammar.specs.Grammar as G
-use Rattle.formula_grammar.specs.Grammar.{Expression, Lambda, Arguments, Argument, parameters_tokens, rows_tokens, expression_tokens, lambda_tokens, arguments_tokens, argument_tokens, passed, expression_tree, lambda_tree, arguments_trees, argument_tree, expression_open, lambda_open, arguments_open, argument_open}
+use Rattle.formula_grammar.specs.Grammar.{Expression, Lambda, Arguments, expression_tokens, lambda_tokens, arguments_tokens, argument_tokens, passed, expression_tree, lambda_tree, arguments_trees, argument_tree, expression_open, lambda_open, arguments_open, argument_open}
 use Rattle.formula_grammar.specs.laws.Reading.{Outcome, Parser, operator_of, operator_under, operator_at, sign_at, make_signed, signed_step, signed, opening, closing, is_empty_here, with_rest, reference_at, range_at, enclosed, argument, arguments_from, arguments_by, arguments, function, lambda_turn, lambda, call, primary, turn, expression, whole}
 use Rattle.formula_grammar.proofs.Depths.{depth_worded, depth_range_node}
 use Rattle.formula_grammar.proofs.Steps.{Brings, nothing, brings, brings_over, brings_bind, brings_made, brings_if, brings_by, from_sound}

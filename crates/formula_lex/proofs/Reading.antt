@@ -7,7 +7,7 @@ use Rattle.std.proofs.lemmas.Bool.Decides.{nat_tests}
 use Rattle.std.specs.Str.{chars, IsUtf8, IsAscii}
 use Rattle.std.proofs.lemmas.List.{append_cancel_right}
 use Rattle.std.proofs.Math.Seq.{take-append_seam, drop-append_seam}
-use Rattle.std.proofs.lemmas.Str.{IsUtf8-past_char, IsCharBoundary-at_seam, chars-append, chars-nil, chars_past_char, IsUtf8-take, encodes-chars, length-encode, len_utf8_bounds, encodes-append, encodes_same, encodes-IsAscii}
+use Rattle.std.proofs.lemmas.Str.{IsUtf8-past_char, IsCharBoundary-at_seam, chars-append, chars_past_char, IsUtf8-take, encodes-chars, length-encode, len_utf8_bounds, encodes-append, encodes_same, encodes-IsAscii}
 use Rattle.std.specs.Str.Pattern.{FindsTextPrefix, StripsPrefix}
 use denote.Ref.{Bor}
 use Rattle.base_tables.specs.declared.Error.{Error}

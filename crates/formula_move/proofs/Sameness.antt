@@ -1,10 +1,7 @@
 -- `==` of displacements is equality of their values.
-use Rattle.std.proofs.Common.{◌≡◌}
-use Rattle.std.specs.Bool.{Decides}
 use Rattle.std.specs.Cmp.{signed_Decides}
 use Rattle.std.specs.Cmp.Lexicographic.{bytes_decides}
 use Rattle.std.proofs.lemmas.Bool.Decides.{Decides-and}
-use Rattle.formula_move.specs.declared.displace_data.DisplaceData.{DisplaceData}
 use Rattle.formula_move.specs.declared.displace_data.DisplaceData.TheVariants as kind
 use Rattle.formula_move.specs.Same.{TellsSame}
 

@@ -1,7 +1,6 @@
 -- The text of a tree, with the parentheses that it needs.
 use Rattle.std.specs.Prelude.{ℕ, Bool, false, if◌then◌else◌, List, [], ◌∷◌, ◌++◌, codes, encode_utf8}
 use Rattle.std.specs.List.{flat_map}
-use Rattle.base_tables.specs.declared.Locale.{Locale}
 use Rattle.base_tables.specs.Locale.{decimal_sign, argument_separator}
 use Rattle.base_tables.specs.Language.{boolean_text}
 use Rattle.base_tables.specs.Error.{error_text}

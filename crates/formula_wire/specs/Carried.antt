@@ -1,5 +1,5 @@
 -- Trees whose parts bytes can carry.
-use Rattle.std.specs.Prelude.{ℕ, ◌^◌, ℤ, pos, negsuc, Bool, true, ◌&&◌, nat_lt, IsTrue, List}
+use Rattle.std.specs.Prelude.{◌^◌, ℤ, pos, negsuc, Bool, true, ◌&&◌, nat_lt, IsTrue}
 use Rattle.base_decimal.specs.Canonical.{is_canonical}
 use Rattle.formula_tree.specs.declared.ArrayItem.{ArrayItem}
 use Rattle.formula_tree.specs.declared.ArrayItem.TheVariants as item

@@ -26,10 +26,9 @@ use Rattle.script_lines.specs.Escapes.{unescaped}
 use Rattle.script_lines.proofs.EscapeLaws.{unescaped-IsUtf8}
 use Rattle.script_lines.specs.Commands.{Reader, word, sheet_word, cell_words, area_words, lines_words, move_words, sheet_move_words, rule_words, swap_words, color_words, grid_words, bit_of, scope_of, name_of, name_words, path_words, update_words, ended, with_text, alone, exactly, and_text, Table, by_table, cell_commands, cell_command, line_commands, line_command, sheet_commands, sheet_command, book_commands, book_command, from_words, command_of, count_words, span_of, size_of, only_text, theme_words, fill_words}
 use Rattle.script_lines.specs.declared.reference.Reference.{Reference}
-use Rattle.script_lines.specs.declared.command.NamedCell.{NamedCell}
 use Rattle.script_lines.specs.declared.command.Command.{Command}
 use Rattle.script_lines.specs.declared.command.Command.TheVariants.{Set, Get, Array, Link, Unlink, Merge, Unmerge, InsertRows, InsertColumns, DeleteRows, DeleteColumns, MoveRows, MoveColumns, NewSheet, DuplicateSheet, DeleteSheet, MoveSheet, RenameSheet, HideSheet, UnhideSheet, SheetColor, GridLines, Name, NameUpdate, NameDelete, Undo, Redo, Sync, Show, Width, Height, HideRows, ShowRows, HideColumns, ShowColumns, FreezeRows, FreezeColumns, Style, Clear, ClearContents, ClearFormatting, Title, ThemeColors, Locale, Zone, Language, FillRows, FillColumns, Rule, RuleDelete, RuleSwap}
-use Rattle.script_lines.specs.CommandFits.{IsNamed, IsNamedArea, CellFits, AreaFits, LinesFit, MoveFits, SheetFits, SheetMoveFits, IsNamedColor, ColorFits, GridFits, NameFits, PathFits, UpdateFits, CommandFits, SpanFits, SizeFits, CountFits, PartsFit, ThemeFits, FillFits, RuleFits, SwapFits}
+use Rattle.script_lines.specs.CommandFits.{IsNamed, IsNamedArea, CellFits, AreaFits, LinesFit, MoveFits, SheetFits, SheetMoveFits, IsNamedColor, ColorFits, GridFits, NameFits, PathFits, UpdateFits, CommandFits, CountFits, PartsFit, ThemeFits, FillFits, RuleFits, SwapFits}
 
 -- ---- lists
 

@@ -20,7 +20,7 @@ use Rattle.user_model.specs.Document.{Document}
 use Rattle.user_model.specs.Machine.{State, edited}
 use Rattle.user_model.specs.Places.{rule_goes}
 use Rattle.user_model.specs.Reading.{formula_at, formula_typed}
-use Rattle.user_model.specs.Stands.{StandsFor, Moves, Turns}
+use Rattle.user_model.specs.Stands.{StandsFor, Turns}
 use Rattle.user_model.specs.Typing.{rule_formula}
 use Rattle.script_runs.specs.Script.{plain_rule, rule_asked, rule_typed}
 

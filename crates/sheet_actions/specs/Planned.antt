@@ -1,5 +1,5 @@
 -- Which line edits a workbook allows.
-use Rattle.std.proofs.Common.{ℕ, ℤ, pos, ◌+ℤ◌, Bool, true, false, Option, Some, None, Result, Ok, Err}
+use Rattle.std.proofs.Common.{ℕ, ℤ, pos, ◌+ℤ◌, Bool, Option, Some, None, Result, Ok, Err}
 use Rattle.std.specs.Prelude.{int_lt, not, ◌&&◌, if◌then◌else◌}
 use Rattle.std.specs.List.{list_any}
 use Rattle.base_values.specs.declared.EditError.{EditError}

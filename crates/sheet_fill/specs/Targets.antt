@@ -11,8 +11,9 @@ use Rattle.base_tables.specs.declared.Locale.{Locale}
 use Rattle.formula_tree.specs.Rebase.{rebased}
 use Rattle.formula_grammar.specs.declared.Profile.{Profile}
 use Rattle.cell_content.specs.declared.Content.{Content}
-use Rattle.cell_content.specs.declared.Content.TheVariants.{Empty, Formula, Dynamic, Array}
+use Rattle.cell_content.specs.declared.Content.TheVariants.{Empty, Formula, Array}
 use Rattle.cell_content.specs.Fitting.{fits_at}
+use Rattle.cell_content.specs.Lens.{content_changed}
 use Rattle.cell_input.specs.Inputs.{input_of, input_text}
 use Rattle.sheet_progress.specs.declared.Progression.{Progression}
 use Rattle.sheet_progress.specs.Progressions.{next_text, progression_of}
@@ -29,10 +30,8 @@ profile_at locale language place = record { place = place; locale = locale; lang
 
 -- what a content becomes at another place: a formula's relative corners move along, and an array becomes a plain formula
 abbrev pub filled : Position → Content → Content
-filled place (Formula tree) = Formula (rebased place tree)
-filled place (Dynamic tree) = Dynamic (rebased place tree)
 filled place (Array tree width height) = Formula (rebased place tree)
-filled place content = content
+filled place content = content_changed (rebased place) content
 
 -- what becomes of a cell's content there; no cell gives no content
 abbrev pub filled_entry : Position → Option Cell → Content

@@ -16,7 +16,7 @@ ghost use Rattle.sheet_fill.specs.Targets.{entry_text, filled, filled_entry, fit
 use base_shared::Shared;
 use base_tables::{Language, Locale};
 use base_values::{EditError, Position, Text, copy_of};
-use cell_content::Content;
+use cell_content::{Content, tree_of, with_tree};
 use cell_input::{print_content, read_input};
 use formula_tree::{CellReferenceRC, Node, rebase_node};
 use sheet_grid::Cell;
@@ -74,12 +74,13 @@ fn filled(alloc: Global, content: &Content, place: Position) -> Result<Content, 
     ensures canonical { IfOk result IsCanonicalContent }
     ensures only { IsOkUnless result NoMemory }
 {
+    let Some(tree) = tree_of(content) else {
+        return copy_of(content);
+    };
+    let tree = rebased(alloc, tree.get(), place)?;
     match content {
-        Content::Empty | Content::Number(_) => copy_of(content),
-        Content::Boolean(_) | Content::Error(_) | Content::Text(_) => copy_of(content),
-        Content::Formula(tree) => Ok(Content::Formula(rebased(alloc, tree.get(), place)?)),
-        Content::Dynamic(tree) => Ok(Content::Dynamic(rebased(alloc, tree.get(), place)?)),
-        Content::Array { tree, .. } => Ok(Content::Formula(rebased(alloc, tree.get(), place)?)),
+        Content::Array { .. } => Ok(Content::Formula(tree)),
+        _ => with_tree(content, tree),
     }
 }
 

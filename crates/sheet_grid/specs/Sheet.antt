@@ -72,6 +72,10 @@ with_entries sheet entries = record sheet {
   formattings = entries.formattings;
 }
 
+-- cells, and nothing else
+abbrev pub only_cells : FinMap position_cmp Cell → SheetEntries
+only_cells cells = record { cells = cells; links = fin.empty; rows = fin.empty; columns = fin.empty; merges = []; formattings = [] }
+
 -- the cell at a row and a column, or the first of them that is outside
 abbrev pub cell_at : Sheet → ℤ → ℤ → Result (Option Cell) EditError
 cell_at sheet row column = map_ok (λ place. fin.get sheet.cells place) (place_of row column)

@@ -1,4 +1,5 @@
 pub mod CellEquals
+pub mod ChangedShapes
 pub mod ComputedEquals
 pub mod DefaultPartLaws
 pub mod DimensionEquals

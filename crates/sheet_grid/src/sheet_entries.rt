@@ -1,5 +1,5 @@
-ghost use Rattle.std.specs.Prelude.{◌≡◌, []};
-ghost use Rattle.std.specs.FinMap.{empty};
+ghost use Rattle.std.specs.Prelude.{◌≡◌};
+ghost use Rattle.sheet_grid.specs.Sheet.{only_cells};
 
 use crate::cell::Cell;
 use crate::line_attr::LineAttr;
@@ -24,7 +24,7 @@ pub struct SheetEntries {
 impl SheetEntries {
     /// Cells, and nothing else.
     pub fn of_cells(alloc: Global, cells: PlaceMap<Shared<Cell>>) -> SheetEntries
-        ensures { result ≡ record { cells = cells; links = empty; rows = empty; columns = empty; merges = []; formattings = [] } }
+        ensures { result ≡ only_cells cells }
     {
         SheetEntries {
             cells,

@@ -19,13 +19,13 @@ use Rattle.base_maps.specs.declared.SheetPlace.{SheetPlace}
 use Rattle.base_values.specs.declared.Position.{Position}
 use Rattle.sheet_grid.specs.declared.Cell.{Cell}
 use Rattle.sheet_grid.specs.CanonicalCell.{CanonicalCells}
-use Rattle.sheet_grid.specs.Sheet.{Sheet, with_entries}
+use Rattle.sheet_grid.specs.Sheet.{Sheet, with_entries, only_cells}
 use Rattle.sheet_grid.specs.Book.{Book}
 use Rattle.sheet_lines.specs.declared.kept.KeptLines.{KeptLines}
 use Rattle.sheet_lines.specs.Followed.{book_way, way_on}
 use Rattle.sheet_lines.specs.Sheets.{IsPlacedCell}
 use Rattle.sheet_lines.specs.Part.{part_restored}
-use Rattle.sheet_lines.specs.Parts.{parts, only_cells}
+use Rattle.sheet_lines.specs.Parts.{parts}
 
 -- a sheet taken back: its cells with the kept trees and the lost cells, and its other parts
 abbrev pub sheet_back : Way → KeptLines → Sheet → Sheet

@@ -6,11 +6,11 @@ use Rattle.line_map.specs.Contents.{cell_carried}
 use Rattle.line_map.specs.Maps.{places_carried}
 use Rattle.line_edits.specs.Moves.{LineMoves, edit_moves}
 use Rattle.line_routes.specs.Way.{Way, on}
-use Rattle.sheet_grid.specs.Sheet.{Sheet, with_entries}
+use Rattle.sheet_grid.specs.Sheet.{Sheet, with_entries, only_cells}
 use Rattle.sheet_grid.specs.Book.{Book}
 use Rattle.sheet_ids.specs.Ids.{sheet_of, name_of}
 use Rattle.sheet_lines.specs.Part.{part_carried}
-use Rattle.sheet_lines.specs.Parts.{parts, only_cells}
+use Rattle.sheet_lines.specs.Parts.{parts}
 
 -- how a map on the lines of the sheet of an id, which has that name, meets that sheet
 abbrev pub edited_way : Along → LineMoves → ℕ → List ℕ → Way

@@ -12,19 +12,21 @@ use Rattle.sheet_grid.specs.declared.SheetEntries.{SheetEntries}
 use Rattle.sheet_grid.specs.Sheet.{Sheet}
 use Rattle.sheet_lines.specs.declared.kept.KeptLines.{KeptLines}
 
--- where it stands in a sheet, among what a sheet holds, and in what is kept; what it is along the way of its sheet, what is kept of it on
--- the edited sheet, and what it is when that is taken back; and the law of followers
-pub record Part (V K : Type 0) : Type 0 where
-  pub value_of : Sheet → V
-  pub with_value : SheetEntries → V → SheetEntries
-  pub kept_in : KeptLines → K
-  pub with_kept : KeptLines → K → KeptLines
-  pub carried : Way → V → V
-  pub kept : Way → V → K
-  pub restored : Way → K → V → V
-  pub restores : (w : Way) → IsWay w → (v : V) (k : K) → (w.is_edited ≡ true → k ≡ kept w v) → restored w k (carried w v) ≡ v
+-- what a sheet has of it, and what is kept of that; where it stands in a sheet, among what a sheet holds, and in what is kept; what it is
+-- along the way of its sheet, what is kept of it on the edited sheet, and what it is when that is taken back; and the law of followers
+pub record Part : Type 1 where
+  pub Value : Type 0
+  pub Kept : Type 0
+  pub value_of : Sheet → Value
+  pub with_value : SheetEntries → Value → SheetEntries
+  pub kept_in : KeptLines → Kept
+  pub with_kept : KeptLines → Kept → KeptLines
+  pub carried : Way → Value → Value
+  pub kept : Way → Value → Kept
+  pub restored : Way → Kept → Value → Value
+  pub restores : (w : Way) → IsWay w → (v : Value) (k : Kept) → (w.is_edited ≡ true → k ≡ kept w v) → restored w k (carried w v) ≡ v
 
-module _ {V K : Type 0} (part : Part V K) where
+module _ (part : Part) where
   -- entries with this part of a sheet, carried along
   abbrev pub part_carried : Way → Sheet → SheetEntries → SheetEntries
   part_carried w sheet entries = part.with_value entries (part.carried w (part.value_of sheet))
@@ -38,8 +40,10 @@ module _ {V K : Type 0} (part : Part V K) where
   part_restored w kept sheet entries = part.with_value entries (part.restored w (part.kept_in kept) (part.value_of sheet))
 
 -- two parts
-abbrev pub joined : {V W K L : Type 0} → Part V K → Part W L → Part (V × W) (K × L)
+abbrev pub joined : Part → Part → Part
 joined p q = record {
+  Value = p.Value × q.Value;
+  Kept = p.Kept × q.Kept;
   value_of = λ sheet. (p.value_of sheet, q.value_of sheet);
   with_value = λ entries v. q.with_value (p.with_value entries v.0) v.1;
   kept_in = λ kept. (p.kept_in kept, q.kept_in kept);

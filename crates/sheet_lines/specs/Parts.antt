@@ -1,5 +1,5 @@
 -- The parts of a sheet that go along with its lines, besides its cells.
-use Rattle.std.specs.Prelude.{true, false, List, [], Option, None, if◌then◌else◌}
+use Rattle.std.specs.Prelude.{true, false, List, Option, None, if◌then◌else◌}
 use Rattle.std.specs.Ordering.{int_cmp, nat_cmp}
 use Rattle.std.specs.FinMap.{FinMap, empty}
 use Rattle.base_values.specs.Places.{position_cmp}
@@ -16,7 +16,6 @@ use Rattle.rule_lines.specs.Rules.{rules_carried, rules_kept}
 use Rattle.sheet_grid.specs.declared.Cell.{Cell}
 use Rattle.sheet_grid.specs.declared.LineAttr.{LineAttr}
 use Rattle.sheet_grid.specs.declared.Link.{Link}
-use Rattle.sheet_grid.specs.declared.SheetEntries.{SheetEntries}
 use Rattle.sheet_grid.specs.contracts.line_attr.LineAttrPartialEq.TheImpl as attribute
 use Rattle.sheet_lines.specs.declared.kept.KeptLines.{KeptLines}
 use Rattle.sheet_lines.specs.Part.{Part, joined, merges_back, formattings_back}
@@ -27,8 +26,10 @@ abbrev pub lost_of : {X : Type 0} → Way → FinMap position_cmp X → FinMap p
 lost_of w m = lost_map (place_image w.along w.moves.to) m
 
 -- the links: each goes with its place, and those are kept that go nowhere
-abbrev pub links_part : Part (FinMap position_cmp Link) (FinMap position_cmp Link)
-links_part = record {
+abbrev pub part_of_links : Part
+part_of_links = record {
+  Value = FinMap position_cmp Link;
+  Kept = FinMap position_cmp Link;
   value_of = λ sheet. sheet.links;
   with_value = λ entries links. record entries { links = links };
   kept_in = λ kept. kept.links;
@@ -40,8 +41,10 @@ links_part = record {
 }
 
 -- what rows and columns have: it goes with its lines, and of lines of the edited axis it is kept that go nowhere
-abbrev pub lines_part : Part (FinMap int_cmp LineAttr × FinMap int_cmp LineAttr) (FinMap int_cmp LineAttr)
-lines_part = record {
+abbrev pub part_of_lines : Part
+part_of_lines = record {
+  Value = FinMap int_cmp LineAttr × FinMap int_cmp LineAttr;
+  Kept = FinMap int_cmp LineAttr;
   value_of = λ sheet. (sheet.rows, sheet.columns);
   with_value = λ entries lines. record entries { rows = lines.0; columns = lines.1 };
   kept_in = λ kept. kept.lines;
@@ -53,8 +56,10 @@ lines_part = record {
 }
 
 -- the merges, kept whole where the way back does not give them
-abbrev pub merges_of : Part (List MergedCell) (Option (List MergedCell))
-merges_of = record {
+abbrev pub part_of_merges : Part
+part_of_merges = record {
+  Value = List MergedCell;
+  Kept = Option (List MergedCell);
   value_of = λ sheet. sheet.merges;
   with_value = λ entries merges. record entries { merges = merges };
   kept_in = λ kept. kept.merges;
@@ -66,8 +71,10 @@ merges_of = record {
 }
 
 -- the conditional rules, of which each is kept, under its index, that the way back does not give
-abbrev pub rules_of : Part (List ConditionalFormatting) (FinMap nat_cmp ConditionalFormatting)
-rules_of = record {
+abbrev pub part_of_rules : Part
+part_of_rules = record {
+  Value = List ConditionalFormatting;
+  Kept = FinMap nat_cmp ConditionalFormatting;
   value_of = λ sheet. sheet.formattings;
   with_value = λ entries rules. record entries { formattings = rules };
   kept_in = λ kept. kept.formattings;
@@ -79,14 +86,9 @@ rules_of = record {
 }
 
 -- all of them
-abbrev pub parts :
-    Part (FinMap position_cmp Link × ((FinMap int_cmp LineAttr × FinMap int_cmp LineAttr) × (List MergedCell × List ConditionalFormatting)))
-    (FinMap position_cmp Link × (FinMap int_cmp LineAttr × (Option (List MergedCell) × FinMap nat_cmp ConditionalFormatting)))
-parts = joined links_part (joined lines_part (joined merges_of rules_of))
+abbrev pub parts : Part
+parts = joined part_of_links (joined part_of_lines (joined part_of_merges part_of_rules))
 
--- cells alone, and lost cells alone
-abbrev pub only_cells : FinMap position_cmp Cell → SheetEntries
-only_cells cells = record { cells = cells; links = empty; rows = empty; columns = empty; merges = []; formattings = [] }
-
+-- lost cells, and nothing else
 abbrev pub only_lost : FinMap position_cmp Cell → KeptLines
 only_lost cells = record { cells = cells; links = empty; lines = empty; formulas = empty; merges = None; formattings = empty }

@@ -21,13 +21,7 @@ pub(crate) struct Carried {
 
 /// A part of a sheet that goes along with its lines. `NoMemory` is the only error of each call.
 pub(crate) trait SheetPart<A: Axis, M: LineMap<A>> {
-    /// What a sheet has of it.
-    type Value;
-
-    /// What is kept of it.
-    type Kept;
-
-    ghost part: { Part Self.Value Self.Kept };
+    ghost part: { Part };
 
     /// Entries with this part of a sheet, carried along.
     fn carry(on: &OnSheet<'_, A, M>, entries: SheetEntries) -> Result<SheetEntries, EditError>
@@ -58,10 +52,6 @@ pub(crate) trait SheetPart<A: Axis, M: LineMap<A>> {
 
 /// Two parts, one after the other.
 impl<A: Axis, M: LineMap<A>, P: SheetPart<A, M>, Q: SheetPart<A, M>> SheetPart<A, M> for (P, Q) {
-    type Value = (P::Value, Q::Value);
-
-    type Kept = (P::Kept, Q::Kept);
-
     ghost part = { joined P.part Q.part };
 
     fn carry(on: &OnSheet<'_, A, M>, entries: SheetEntries) -> Result<SheetEntries, EditError> {

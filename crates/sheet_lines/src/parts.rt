@@ -12,13 +12,12 @@ use crate::inside::places_inside;
 use crate::kept::KeptLines;
 use crate::part::{Carried, SheetPart};
 use crate::sheets::OnSheet;
-use base_axis::{Axis, AxisMap, ColumnAxis, MergeList, RowAxis};
-use base_maps::{IndexMap, NumberMap, PositionMap};
-use base_values::{EditError, PlaceMap, copy_of};
-use format_rules::{ConditionalFormatting, RuleList};
+use base_axis::{Axis, AxisMap};
+use base_maps::NumberMap;
+use base_values::{EditError, copy_of};
 use line_map::{Follower, LineMap, carried_with_kept, goes_along, regained, restored_map};
 use rule_lines::{carried_rules, kept_rules, restored_rules};
-use sheet_grid::{LineAttr, Link, SheetEntries};
+use sheet_grid::{LineAttr, SheetEntries};
 
 /// The parts. A further one joins by its implementation and its place here and in the definition.
 pub(crate) type SheetParts = (Links, (Lines, (Merges, Rules)));
@@ -27,13 +26,9 @@ pub(crate) type SheetParts = (Links, (Lines, (Merges, Rules)));
 pub(crate) struct Links;
 
 impl<A: Axis, M: LineMap<A>> SheetPart<A, M> for Links {
-    ghost use Rattle.sheet_lines.specs.Parts.{links_part};
+    ghost use Rattle.sheet_lines.specs.Parts.{part_of_links};
 
-    type Value = PlaceMap<Link>;
-
-    type Kept = PositionMap<Link>;
-
-    ghost part = { links_part };
+    ghost part = { part_of_links };
 
     fn carry(on: &OnSheet<'_, A, M>, entries: SheetEntries) -> Result<SheetEntries, EditError> {
         let links = on.sheet.link_map().carry(on.alloc, &on.route)?;
@@ -93,13 +88,9 @@ fn lines_back<A: Axis, B: Axis, M: LineMap<A>>(
 pub(crate) struct Lines;
 
 impl<A: Axis, M: LineMap<A>> SheetPart<A, M> for Lines {
-    ghost use Rattle.sheet_lines.specs.Parts.{lines_part};
+    ghost use Rattle.sheet_lines.specs.Parts.{part_of_lines};
 
-    type Value = (AxisMap<RowAxis, LineAttr>, AxisMap<ColumnAxis, LineAttr>);
-
-    type Kept = NumberMap<LineAttr>;
-
-    ghost part = { lines_part };
+    ghost part = { part_of_lines };
 
     fn carry(on: &OnSheet<'_, A, M>, mut entries: SheetEntries) -> Result<SheetEntries, EditError> {
         let (rows, columns) = (on.sheet.row_map(), on.sheet.column_map());
@@ -135,13 +126,9 @@ impl<A: Axis, M: LineMap<A>> SheetPart<A, M> for Lines {
 pub(crate) struct Merges;
 
 impl<A: Axis, M: LineMap<A>> SheetPart<A, M> for Merges {
-    ghost use Rattle.sheet_lines.specs.Parts.{merges_of};
+    ghost use Rattle.sheet_lines.specs.Parts.{part_of_merges};
 
-    type Value = MergeList;
-
-    type Kept = Option<MergeList>;
-
-    ghost part = { merges_of };
+    ghost part = { part_of_merges };
 
     fn carry(on: &OnSheet<'_, A, M>, entries: SheetEntries) -> Result<SheetEntries, EditError> {
         let merges = on.sheet.merge_list().carry(on.alloc, &on.route)?;
@@ -170,13 +157,9 @@ impl<A: Axis, M: LineMap<A>> SheetPart<A, M> for Merges {
 pub(crate) struct Rules;
 
 impl<A: Axis, M: LineMap<A>> SheetPart<A, M> for Rules {
-    ghost use Rattle.sheet_lines.specs.Parts.{rules_of};
+    ghost use Rattle.sheet_lines.specs.Parts.{part_of_rules};
 
-    type Value = RuleList;
-
-    type Kept = IndexMap<ConditionalFormatting>;
-
-    ghost part = { rules_of };
+    ghost part = { part_of_rules };
 
     fn carry(on: &OnSheet<'_, A, M>, mut entries: SheetEntries) -> Result<SheetEntries, EditError> {
         let rules = on.sheet.conditional_formatting();

@@ -1,4 +1,4 @@
--- Cells whose trees are renamed: they come back with what was kept, and fit, fill and hide as they did.
+-- Cells whose trees are renamed: they come back with what was kept, and fit as they did.
 use Rattle.std.proofs.Common.{◌≡◌, ℕ, true, List, Option, Some, None, refl, ap, sym, ◌∙◌}
 use Rattle.std.specs.Prelude.{◌&&◌, is_some, nat_le}
 use Rattle.std.specs.Option.{option_map, option_map_or}
@@ -15,13 +15,10 @@ use Rattle.formula_names.specs.Renamed.{naming, tree_renamed, tree_kept}
 use Rattle.formula_names.specs.laws.NamedLaws.{depth-named, numbers-named, placed-named}
 use Rattle.formula_names.specs.laws.RenamedLaws.{nothing_kept, something_kept}
 use Rattle.cell_content.specs.declared.Content.{Content}
-use Rattle.cell_content.specs.declared.Content.TheVariants.{Empty, Number, Boolean, Error, Text, Formula, Dynamic, Array}
 use Rattle.cell_content.specs.Fitting.{fits_at, tree_fits_at}
 use Rattle.cell_content.specs.Lens.{content_changed, tree_of}
 use Rattle.cell_content.specs.laws.ChangedLaws.{tree_of-changed, changed_back, put_back}
-use Rattle.sheet_grid.specs.Arrays.{array_at}
 use Rattle.sheet_grid.specs.declared.Cell.{Cell}
-use Rattle.sheet_grid.specs.Merges.{is_empty}
 use Rattle.book_names.specs.Renaming.{content_renamed, cell_renamed, cells_renamed, cell_kept, cell_back, cells_back}
 use Rattle.book_names.specs.laws.Entries.{get_changed}
 
@@ -33,28 +30,6 @@ pub still_formula : (change : Node → Node) (content : Content) (tree : Node) �
 still_formula change content tree is = ap is_some (tree_of-changed change content ∙ ap (option_map change) is)
 
 module _ (reach : Reach) (old new : List ℕ) where
-  -- an array fills what it did
-  pub still_array : (place : Position) (content : Content) → array_at place (content_renamed reach old new content) ≡ array_at place content
-  still_array place Empty = refl
-  still_array place (Number _) = refl
-  still_array place (Boolean _) = refl
-  still_array place (Error _) = refl
-  still_array place (Text _) = refl
-  still_array place (Formula _) = refl
-  still_array place (Dynamic _) = refl
-  still_array place (Array _ _ _) = refl
-
-  -- what is empty stays so
-  pub still_empty : (content : Content) → is_empty (content_renamed reach old new content) ≡ is_empty content
-  still_empty Empty = refl
-  still_empty (Number _) = refl
-  still_empty (Boolean _) = refl
-  still_empty (Error _) = refl
-  still_empty (Text _) = refl
-  still_empty (Formula _) = refl
-  still_empty (Dynamic _) = refl
-  still_empty (Array _ _ _) = refl
-
   -- a tree fits where it did
   pub tree_fits : (place : Position) (tree : Node) → tree_fits_at place (tree_renamed reach old new tree) ≡ tree_fits_at place tree
   unfolding tree_fits_at is_within

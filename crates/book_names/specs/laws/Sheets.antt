@@ -26,6 +26,7 @@ use Rattle.sheet_grid.specs.declared.Cell.{Cell}
 use Rattle.sheet_grid.specs.declared.LineAttr.{LineAttr}
 use Rattle.sheet_grid.specs.declared.Link.{Link}
 use Rattle.sheet_grid.specs.Merges.{is_empty}
+use Rattle.sheet_grid.specs.laws.ChangedShapes.{array_changed, empty_changed}
 use Rattle.sheet_grid.specs.Sheet.{Sheet}
 use Rattle.sheet_rules.specs.Occupied.{are_apart, meets_any, have_arrays, is_merge, have_merges, covers, covers_blanks, are_hidden_blank}
 use Rattle.sheet_rules.specs.WellFormed.{stands_inside, have_trees, have_attributes, is_row, is_column, has_font}
@@ -35,7 +36,7 @@ use Rattle.book_sheets.specs.laws.SheetRules.{KeepsSheetRules}
 use Rattle.book_names.specs.declared.kept_trees.KeptTrees.{KeptTrees}
 use Rattle.book_names.specs.Renaming.{ArePlacedTrees, cell_renamed, cells_renamed, sheet_renamed, kept_under, cell_back, cells_back, sheet_back}
 use Rattle.book_names.specs.Renaming.{formattings_renamed, formattings_under, formattings_back}
-use Rattle.book_names.specs.laws.Cells.{still_array, still_empty, content_fits}
+use Rattle.book_names.specs.laws.Cells.{content_fits}
 use Rattle.book_names.specs.laws.Entries.{entries_changed, all_same, gives_same}
 use Rattle.book_names.specs.laws.Formattings.{all_parts_still, all_trees_still, rules_still, rules_back_still}
 
@@ -60,16 +61,16 @@ module _ (reach : Reach) (name old new : List ℕ) (sheet : Sheet) where
   same_arrays =
       ap (filter_map (λ (entry : Position × Cell). array_at entry.0 entry.1.content)) entries_are
       ∙ gives_same changed (λ (entry : Position × Cell). array_at entry.0 entry.1.content) (λ (entry : Position × Cell). array_at entry.0 entry.1.content)
-      (λ entry. still_array reach old new entry.0 entry.1.content) (entries sheet.cells)
+      (λ entry. array_changed (tree_renamed reach old new) entry.0 entry.1.content) (entries sheet.cells)
 
   same_large : large_arrays_of later ≡ large_arrays_of sheet
   same_large =
       ap (filter_map (λ (entry : Position × Cell). large_array_at entry.0 entry.1.content)) entries_are
       ∙ gives_same changed (λ (entry : Position × Cell). large_array_at entry.0 entry.1.content) (λ (entry : Position × Cell). large_array_at entry.0 entry.1.content)
-      (λ entry. ap where_large (still_array reach old new entry.0 entry.1.content)) (entries sheet.cells)
+      (λ entry. ap where_large (array_changed (tree_renamed reach old new) entry.0 entry.1.content)) (entries sheet.cells)
 
   same_blanks : (r : MergedCell) → covers_blanks later r ≡ covers_blanks sheet r
-  same_blanks r = cells_pass (λ entry. is_empty entry.1.content || not (covers r entry.0)) (λ entry. ap (λ b. b || not (covers r entry.0)) (still_empty reach old new entry.1.content))
+  same_blanks r = cells_pass (λ entry. is_empty entry.1.content || not (covers r entry.0)) (λ entry. ap (λ b. b || not (covers r entry.0)) (empty_changed (tree_renamed reach old new) entry.1.content))
 
   inside_same : stands_inside later ≡ stands_inside sheet
   unfolding stands_inside

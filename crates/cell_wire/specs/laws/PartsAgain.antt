@@ -2,6 +2,7 @@
 use Rattle.std.proofs.Common.{◌≡◌, ℕ, List, ◌++◌, Option, Some, None, Ok, refl}
 use Rattle.std.specs.Prelude.{IfSome, FitsSigned}
 use Rattle.std.specs.Int.{w32}
+use Rattle.std.proofs.lemmas.List.{append-nil}
 use Rattle.base_styles.specs.declared.ThemeColor.{ThemeColor}
 use Rattle.base_styles.specs.declared.ThemeColor.TheVariants.{Light1, Dark1, Light2, Dark2, Accent1, Accent2, Accent3, Accent4, Accent5, Accent6, Hyperlink, FollowedHyperlink}
 use Rattle.base_styles.specs.Colors.{theme_color_code, theme_color_of_code}
@@ -160,13 +161,13 @@ content_again = record { again = one }
   where
     one : (x : Content) (rest : List ℕ) → FitsContent x → content_at (spell_content x ++ rest) ≡ Ok (x, rest)
     one Empty rest fits = refl
-    one (Number number) rest fits = rw (decimal_again.again number rest fits) refl
+    one (Number number) rest fits = rw (decimal_again.again number rest fits.rest) refl
     one (Boolean value) rest fits = rw (boolean_again.again value rest tt) refl
     one (ErrorValue error) rest fits = rw (error_again.again error rest tt) refl
-    one (Text text) rest fits = rw (text_again.again text rest fits) refl
-    one (Formula tree) rest fits = rw (node_again.again tree rest fits) refl
-    one (Dynamic tree) rest fits = rw (node_again.again tree rest fits) refl
-    one (Array tree width height) rest fits = rw (array_parts_again.again (tree, (width, height)) rest (fits.tree, (fits.width, fits.height))) refl
+    one (Text text) rest fits = rw (text_again.again text rest fits.rest) refl
+    one (Formula tree) rest fits = rw (append-nil (spell_node tree), node_again.again tree rest fits.tree) refl
+    one (Dynamic tree) rest fits = rw (append-nil (spell_node tree), node_again.again tree rest fits.tree) refl
+    one (Array tree width height) rest fits = rw (array_parts_again.again (tree, (width, height)) rest (fits.tree, (fits.rest.width, fits.rest.height))) refl
 
 pub cell_again : ReadsAgain FitsCell spell_cell cell_at
 unfolding cell_at

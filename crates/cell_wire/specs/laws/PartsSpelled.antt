@@ -1,7 +1,8 @@
 -- What is read of styles and cells was spelled so.
-use Rattle.std.proofs.Common.{refl}
+use Rattle.std.proofs.Common.{◌∷◌, refl, ap}
 use Rattle.std.specs.Prelude.{IfSome, FitsSigned}
 use Rattle.std.specs.Int.{w32}
+use Rattle.std.proofs.lemmas.List.{append-nil}
 use Rattle.base_styles.specs.declared.Color.TheVariants.{None as NoColor, Theme}
 use Rattle.base_styles.specs.Colors.{all_theme_colors, theme_color_code, theme_color_of_code}
 use Rattle.base_tables.specs.laws.Tables.{found_number}
@@ -95,14 +96,14 @@ pub content_spelled : ReadsSpelled FitsContent spell_content content_at
 unfolding content_at
 content_spelled =
     tagged_spelled content_of (λ kind.
-    tag_if kind 0 (tag_plain FitsContent spell_content 0 Empty refl tt)
-    (tag_if kind 1 (tag_map decimal_spelled Number FitsContent spell_content 1 (λ x. refl) (λ x fits. fits))
-    (tag_if kind 2 (tag_map boolean_spelled Boolean FitsContent spell_content 2 (λ x. refl) (λ x fits. tt))
-    (tag_if kind 3 (tag_map error_spelled ErrorValue FitsContent spell_content 3 (λ x. refl) (λ x fits. tt))
-    (tag_if kind 4 (tag_map text_spelled Text FitsContent spell_content 4 (λ x. refl) (λ x fits. fits))
-    (tag_if kind 5 (tag_map node_spelled Formula FitsContent spell_content 5 (λ x. refl) (λ x fits. fits))
-    (tag_if kind 6 (tag_map node_spelled Dynamic FitsContent spell_content 6 (λ x. refl) (λ x fits. fits))
-    (tag_if kind 7 (tag_map array_parts_spelled array_made FitsContent spell_content 7 (λ x. refl) (λ x fits. record { tree = fits.0; width = fits.1.0; height = fits.1.1 }))
+    tag_if kind 0 (tag_plain FitsContent spell_content 0 Empty refl (record { tree = tt; rest = tt }))
+    (tag_if kind 1 (tag_map decimal_spelled Number FitsContent spell_content 1 (λ x. refl) (λ x fits. record { tree = tt; rest = fits }))
+    (tag_if kind 2 (tag_map boolean_spelled Boolean FitsContent spell_content 2 (λ x. refl) (λ x fits. record { tree = tt; rest = tt }))
+    (tag_if kind 3 (tag_map error_spelled ErrorValue FitsContent spell_content 3 (λ x. refl) (λ x fits. record { tree = tt; rest = tt }))
+    (tag_if kind 4 (tag_map text_spelled Text FitsContent spell_content 4 (λ x. refl) (λ x fits. record { tree = tt; rest = fits }))
+    (tag_if kind 5 (tag_map node_spelled Formula FitsContent spell_content 5 (λ x. ap (λ b. 5 ∷ b) (append-nil (spell_node x))) (λ x fits. record { tree = fits; rest = tt }))
+    (tag_if kind 6 (tag_map node_spelled Dynamic FitsContent spell_content 6 (λ x. ap (λ b. 6 ∷ b) (append-nil (spell_node x))) (λ x fits. record { tree = fits; rest = tt }))
+    (tag_if kind 7 (tag_map array_parts_spelled array_made FitsContent spell_content 7 (λ x. refl) (λ x fits. record { tree = fits.0; rest = record { width = fits.1.0; height = fits.1.1 } }))
     (tag_refused FitsContent spell_content kind)))))))))
 
 pub cell_spelled : ReadsSpelled FitsCell spell_cell cell_at

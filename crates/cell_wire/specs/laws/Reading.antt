@@ -15,7 +15,7 @@ use Rattle.base_styles.specs.declared.VerticalAlignment.TheVariants as vertical
 use Rattle.base_styles.specs.declared.Alignment.{Alignment}
 use Rattle.base_styles.specs.declared.Font.{Font}
 use Rattle.base_styles.specs.declared.Style.{Style}
-use Rattle.base_wire.specs.laws.Reading.{Reader, plain, refused, map_at, ◌⊗◌, byte_at, tagged_at, coded_at, code_at, signed_at, text_at, option_at, boolean_at, error_at, decimal_at, list_at}
+use Rattle.base_wire.specs.laws.Reading.{Reader, ◌>>=◌, plain, refused, map_at, ◌⊗◌, byte_at, tagged_at, coded_at, code_at, signed_at, text_at, option_at, boolean_at, error_at, decimal_at, list_at}
 use Rattle.base_values.specs.declared.Position.{Position}
 use Rattle.formula_tree.specs.declared.Node.{Node}
 use Rattle.cell_content.specs.declared.Content.{Content}
@@ -111,6 +111,16 @@ array_made x = Array x.0 x.1.0 x.1.1
 
 abbrev pub array_at : Reader Content
 array_at = map_at array_made (node_at ⊗ signed_at w32 ⊗ signed_at w32)
+
+-- an array with this tree, by its sides
+abbrev pub sides_at : Node → Reader Content
+sides_at tree = map_at (λ sides. array_made (tree, sides)) (signed_at w32 ⊗ signed_at w32)
+
+-- a formula of a kind, its tree first
+abbrev pub formula_at : ℕ → Reader Content
+formula_at kind bytes = do
+  tree ← node_at bytes
+  (if kind == 5 then plain (Formula tree.0) else if kind == 6 then plain (Dynamic tree.0) else sides_at tree.0) tree.1
 
 -- what follows each kind
 abbrev pub content_of : ℕ → Reader Content

@@ -1,8 +1,7 @@
 -- The numbers of an array are canonical where those of each line are.
-use Rattle.std.specs.Prelude.{◌≡◌, Bool, true, ◌&&◌, List, [], ◌∷◌}
+use Rattle.std.specs.Prelude.{◌≡◌, Bool, ◌&&◌, List, [], ◌∷◌}
 use Rattle.std.proofs.Common.{refl, ap, ◌∙◌}
 use Rattle.std.specs.List.{list_all}
-use Rattle.base_decimal.specs.Canonical.{is_canonical}
 use Rattle.formula_tree.specs.declared.ArrayItem.{ArrayItem}
 use Rattle.formula_tree.specs.declared.ArrayItem.TheVariants as item
 use Rattle.formula_tree.specs.declared.Node.TheVariants as node

@@ -1,5 +1,5 @@
 -- One level of reading a tree.
-use Rattle.std.proofs.Common.{◌≡◌, ℕ, suc, ◌+◌, ◌-◌, ◌<◌, List, Err, refl, ap, subst, sym, ◌∙◌, arith}
+use Rattle.std.proofs.Common.{◌≡◌, ℕ, suc, ◌+◌, ◌-◌, List, Err, ap, arith}
 use Rattle.base_values.specs.declared.EditError.TheVariants.{ParseDiffs}
 use Rattle.base_wire.specs.laws.Reading.{tagged_at}
 use Rattle.formula_wire.specs.laws.Reading.{node_of, node_within}

@@ -1,5 +1,5 @@
 -- The laws of the bytes of trees.
-use Rattle.std.proofs.Common.{◌≡◌, ℕ, zero, suc, ◌+◌, ◌≤◌, ◌&&◌, eqb, Bool, true, false, if◌then◌else◌, List, [], ◌∷◌, ◌++◌, length, Result, Ok, Err, refl, ap, sym, subst, ◌∙◌, arith}
+use Rattle.std.proofs.Common.{◌≡◌, ℕ, zero, suc, ◌+◌, ◌≤◌, ◌&&◌, eqb, Bool, true, false, if◌then◌else◌, List, ◌∷◌, ◌++◌, length, Ok, refl, ap, sym, subst, ◌∙◌, arith}
 use Rattle.std.specs.Prelude.{nat_lt}
 use Rattle.std.proofs.lemmas.Bool.{and_parts, and_from}
 use Rattle.std.proofs.lemmas.Bool.Decides.{nat_tests}
@@ -12,7 +12,7 @@ use Rattle.base_wire.specs.laws.Again.{ReadsAgain}
 use Rattle.base_wire.specs.laws.Spelled.{ReadsSpelled, TagSpelled, tag_map, tag_plain, tag_refused, tag_if, tagged_spelled, fits_otherwise}
 use Rattle.base_wire.specs.laws.Refusals.{IsPlain, map_plain, plain_plain, refused_plain, if_plain, tagged_plain}
 use Rattle.base_wire.specs.laws.Format.{Format}
-use Rattle.base_wire.specs.laws.Form.{Passes, Form, form_of, both_form, decimal_form, text_form, list_form}
+use Rattle.base_wire.specs.laws.Form.{Passes, Form, both_form, decimal_form, text_form, list_form}
 use Rattle.formula_wire.specs.laws.Reading.{sheet_at, corner_at, reference_made, range_made, colon_made, concatenate_made, compare_made, sum_made, product_made, power_made, unary_made, call_made, named_call_made, lambda_made, lambda_call_made, node_of, node_within, node_at}
 use Rattle.formula_wire.specs.laws.PartLaws.{boolean_form, error_form, compare_form, sum_form, product_form, unary_form, function_form, corner_form, sheet_form, lines_form, parameters_form}
 use Rattle.formula_wire.specs.NodeBytes.{spell_node}

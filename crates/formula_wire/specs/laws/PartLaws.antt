@@ -1,8 +1,8 @@
 -- The laws of the bytes of the parts of nodes.
-use Rattle.std.proofs.Common.{◌≡◌, ℕ, ◌^◌, ◌≤◌, ◌<◌, ◌&&◌, ltb, ℤ, pos, negsuc, Bool, true, false, List, ◌∷◌, ◌++◌, length, Option, Some, Ok, refl, ap, sym, ◌∙◌, arith}
+use Rattle.std.proofs.Common.{◌≡◌, ℕ, ◌^◌, ◌≤◌, ◌&&◌, ℤ, pos, negsuc, Bool, true, false, List, ◌++◌, length, Some, Ok, refl, sym, ◌∙◌, arith}
 use Rattle.std.specs.Prelude.{FitsSigned}
 use Rattle.std.specs.Int.{w32}
-use Rattle.std.proofs.lemmas.Bool.{and_parts, and_from, ltb-true, lt-ltb}
+use Rattle.std.proofs.lemmas.Bool.{ltb-true, lt-ltb}
 use Rattle.base_tables.specs.declared.Error.{Error}
 use Rattle.base_tables.specs.Error.{error_code}
 use Rattle.base_tables.specs.declared.Function.{Function}
@@ -19,10 +19,9 @@ use Rattle.formula_tree.specs.declared.ProductKind.{ProductKind}
 use Rattle.formula_tree.specs.declared.ProductKind.TheVariants.{Multiply, Divide}
 use Rattle.formula_tree.specs.declared.UnaryKind.{UnaryKind}
 use Rattle.formula_tree.specs.declared.UnaryKind.TheVariants.{Minus, Percent}
-use Rattle.base_wire.specs.laws.Reading.{Reader, signed_at, decoded, boolean_at, error_at}
-use Rattle.base_wire.specs.Spelling.{spell_signed, spell_code, boolean_code, spell_list}
+use Rattle.base_wire.specs.laws.Reading.{signed_at, decoded, boolean_at, error_at}
+use Rattle.base_wire.specs.Spelling.{spell_signed, spell_code, boolean_code}
 use Rattle.base_wire.specs.laws.Again.{ReadsAgain, wide32, signed_again}
-use Rattle.base_wire.specs.Spelling.{Any}
 use Rattle.base_wire.specs.laws.Spelled.{ReadsSpelled, tag_map, tag_refused, tag_if, tagged_spelled, back32, signed_spelled}
 use Rattle.base_wire.specs.laws.Refusals.{map_plain, refused_plain, if_plain, tagged_plain, signed_plain}
 use Rattle.base_wire.specs.laws.Parts.{boolean_again, boolean_spelled, boolean_plain, error_again, error_spelled, error_plain}

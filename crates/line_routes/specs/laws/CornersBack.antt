@@ -6,8 +6,7 @@ use Rattle.std.proofs.lemmas.Int.{ints}
 use Rattle.base_values.specs.declared.Position.{Position}
 use Rattle.base_values.specs.Places.{IsPlace, is_line}
 use Rattle.base_axis.specs.Along.{Along, rows, columns}
-use Rattle.base_maps.specs.Carried.{Inverse, if_there}
-use Rattle.base_maps.specs.laws.Inverses.{own_inverse}
+use Rattle.base_maps.specs.Carried.{if_there}
 use Rattle.formula_tree.specs.declared.Corner.{Corner}
 use Rattle.formula_tree.specs.Corners.{line_at, number_at, corner_row, corner_column, is_inside, are_in_order, corner_at, corner_to, crossing}
 use Rattle.formula_tree.specs.Corners.{lower_corner, higher_corner, are_rows_reversed, are_columns_reversed, is_whole_rows, is_whole_columns}

@@ -19,7 +19,7 @@ use Rattle.formula_tree.specs.Moved.{moved, reference_to, range_to}
 use Rattle.formula_tree.specs.OnSheet.{is_on_sheet}
 use Rattle.formula_tree.specs.Placed.{is_placed_range}
 use Rattle.formula_back.specs.laws.LeafLaws.{same_layers, TellsLeaves, tells_trees}
-use Rattle.formula_back.specs.laws.StillLaws.{PassesNoStill, still_passes_none}
+use Rattle.formula_back.specs.laws.StillLaws.{still_passes_none}
 use Rattle.line_routes.specs.MustKeep.{keeps_reference, is_given_up, keeps_range, kept_leaves, must_keep}
 use Rattle.line_routes.specs.Trees.{corner_of, is_exposed, is_whole, moved_corner, following, tree_carried, tree_part, ComesBack, TreeLies}
 use Rattle.line_routes.specs.Way.{Way, IsWay, back, place_goes}

@@ -11,7 +11,7 @@ use Rattle.book_laws.specs.laws.ListEdits.{remove_inserted, insert_removed, got_
 use Rattle.book_laws.specs.laws.ListTests.{all_with, all_without, passes_at}
 use Rattle.rule_edits.specs.declared.change.RuleChange.{RuleChange}
 use Rattle.rule_edits.specs.Made.{IsAt, IsMade}
-use Rattle.rule_edits.specs.RuleChanges.{change_at, change_goes, comes_fitting, has_place, is_change, may_stand, opposite, rule_come, rule_gone, rules_changed}
+use Rattle.rule_edits.specs.RuleChanges.{change_at, change_goes, comes_fitting, has_place, may_stand, opposite, rule_come, rule_gone, rules_changed}
 
 -- ---- there and back
 

@@ -1,10 +1,9 @@
 -- What writing asks of a rule is that its numbers are canonical and its formulas at most 64 deep, and what bytes carry has both.
 use Rattle.std.proofs.Common.{◌≡◌, Bool, true, List, [], ◌∷◌, Option, Some, None, refl}
 use Rattle.std.specs.Prelude.{IfSome}
-use Rattle.std.specs.List.{All, AllByRecursion, list_all}
+use Rattle.std.specs.List.{AllByRecursion, list_all}
 use Rattle.std.specs.Option.{option_map_or}
 use Rattle.std.proofs.lemmas.List.Elements.{All-from_recursion}
-use Rattle.base_decimal.specs.Canonical.{is_canonical, IsCanonical}
 use Rattle.formula_tree.specs.declared.Node.{Node}
 use Rattle.formula_tree.specs.Depth.{is_within}
 use Rattle.formula_tree.specs.Numbers as tree

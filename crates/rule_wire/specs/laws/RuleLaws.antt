@@ -1,7 +1,6 @@
 -- The laws of the bytes of rules.
-use Rattle.std.proofs.Common.{◌≡◌, ◌≤◌, ◌<◌, List, [], ◌∷◌, ◌++◌, ℕ, length, Option, Some, Ok, refl, arith, eqb}
+use Rattle.std.proofs.Common.{◌≡◌, ◌≤◌, ◌<◌, List, [], ◌∷◌, ◌++◌, ℕ, length, Some, Ok, refl, arith, eqb}
 use Rattle.std.specs.Prelude.{IfSome, ◌^◌}
-use Rattle.base_styles.specs.declared.Color.{Color}
 use Rattle.format_rules.specs.declared.CfOperator.{CfOperator}
 use Rattle.format_rules.specs.declared.CfOperator.TheVariants.{Equal, NotEqual, Less, LessOrEqual, Greater, GreaterOrEqual, Between, NotBetween}
 use Rattle.format_rules.specs.declared.CfRule.{CfRule}

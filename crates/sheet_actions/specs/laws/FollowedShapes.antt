@@ -25,11 +25,13 @@ use Rattle.line_edits.specs.Splits.{splits}
 use Rattle.line_edits.specs.laws.OneToOne.{edit_one_to_one}
 use Rattle.line_map.specs.Contents.{content_carried, cell_carried}
 use Rattle.line_routes.specs.Merges.{merge_carried, merges_carried}
+use Rattle.line_routes.specs.Trees.{tree_carried}
 use Rattle.line_routes.specs.Way.{Way, IsWay, at, back, place_goes}
 use Rattle.line_routes.specs.laws.WayLaws.{goes_inverse}
 use Rattle.sheet_grid.specs.declared.Cell.{Cell}
 use Rattle.sheet_grid.specs.Arrays.{array_at, large_array_at, where_large}
 use Rattle.sheet_grid.specs.Merges.{is_empty}
+use Rattle.sheet_grid.specs.laws.ChangedShapes.{empty_changed}
 use Rattle.sheet_grid.specs.Sheet.{Sheet}
 use Rattle.sheet_rules.specs.Occupied.{have_arrays, have_merges, are_hidden_blank, is_merge}
 use Rattle.sheet_rules.specs.laws.ArraysIn.{array_in}
@@ -58,17 +60,6 @@ array_carried w p q (Text text) = refl
 array_carried w p q (Formula tree) = refl
 array_carried w p q (Dynamic tree) = refl
 array_carried w p q (Array tree width height) = refl
-
--- and a content is none where it was none
-empty_carried : (w : Way) (content : Content) → is_empty (content_carried w content) ≡ is_empty content
-empty_carried w Empty = refl
-empty_carried w (Number number) = refl
-empty_carried w (Boolean truth) = refl
-empty_carried w (Error error) = refl
-empty_carried w (Text text) = refl
-empty_carried w (Formula tree) = refl
-empty_carried w (Dynamic tree) = refl
-empty_carried w (Array tree width height) = refl
 
 -- an array begins at its place
 array_begins : (p : Position) (content : Content) (r : MergedCell) → array_at p content ≡ Some r → anchor_place r ≡ p
@@ -125,7 +116,7 @@ module _ (w : Way) (is : IsWay w) (came : Position → Position) (sheet : Sheet)
   came_cell : (q : Position) (cell : Cell) → get after.cells q ≡ Some cell → Came (place_goes w) came sheet after q cell
   came_cell q cell h =
       let c = went q cell h in
-      record { place = c.place; before = c.before; there = c.there; held = c.held; empty = ap (λ x. is_empty x.content) (sym c.value) ∙ empty_carried (at w c.place q) c.before.content }
+      record { place = c.place; before = c.before; there = c.there; held = c.held; empty = ap (λ x. is_empty x.content) (sym c.value) ∙ empty_changed (tree_carried (at w c.place q)) c.before.content }
 
   -- where the arrays of the sheet follow, so do those that cells show
   module _ (fits : (p q : Position) (r : MergedCell) → array_in sheet p ≡ Some r → place_goes w p ≡ Some q → Follows (place_goes w) came r (placed_at q r)) where

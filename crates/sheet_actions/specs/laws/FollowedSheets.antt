@@ -1,5 +1,5 @@
 -- A sheet along a map on lines keeps the rules of its sheet.
-use Rattle.std.proofs.Common.{◌≡◌, ℕ, Bool, true, refl, ap, ◌∙◌, arith}
+use Rattle.std.proofs.Common.{◌≡◌, ℕ, Bool, true, ap, ◌∙◌, arith}
 use Rattle.std.specs.Prelude.{◌&&◌, nat_le}
 use Rattle.std.specs.List.{list_all}
 use Rattle.std.specs.Ordering.{int_cmp}
@@ -14,7 +14,7 @@ use Rattle.formula_tree.specs.Placed.{is_placed}
 use Rattle.formula_tree.specs.laws.MovedLaws.{depth-moved}
 use Rattle.cell_content.specs.Fitting.{tree_fits_at, fits_at}
 use Rattle.cell_content.specs.declared.Content.{Content}
-use Rattle.cell_content.specs.declared.Content.TheVariants.{Empty, Number, Boolean, Error, Text, Formula, Dynamic, Array}
+use Rattle.cell_content.specs.laws.FittingLaws.{changed_fits}
 use Rattle.line_map.specs.Attributes.{lines_carried}
 use Rattle.line_map.specs.Contents.{content_carried, cell_carried}
 use Rattle.line_routes.specs.Trees.{following, tree_carried}
@@ -55,14 +55,7 @@ tree_fits w is tree fits =
     pass _ _ (pass _ _ (tree_placed w is tree) (within_carried w 64 tree ∙ shape.1)) (numbers_carried w tree ∙ tests.1)
 
 content_fits : (w : Way) → IsWay w → (content : Content) → fits_at w.from content ≡ true → fits_at w.to (content_carried w content) ≡ true
-content_fits w is Empty fits = refl
-content_fits w is (Number number) fits = refl
-content_fits w is (Boolean truth) fits = refl
-content_fits w is (Error error) fits = refl
-content_fits w is (Text text) fits = refl
-content_fits w is (Formula tree) fits = tree_fits w is tree fits
-content_fits w is (Dynamic tree) fits = tree_fits w is tree fits
-content_fits w is (Array tree width height) fits = tree_fits w is tree fits
+content_fits w is = changed_fits (tree_carried w) w.from w.to (tree_fits w is)
 
 module _ (w : Way) (is : IsWay w) where
   -- the lines that have something are lines of the sheet

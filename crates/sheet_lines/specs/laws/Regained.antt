@@ -15,7 +15,7 @@ use Rattle.base_maps.specs.laws.Found.{all_come_back, found_by, all_found}
 use Rattle.base_maps.specs.laws.Tagged.{get-all_under}
 use Rattle.formula_tree.specs.declared.Node.{Node}
 use Rattle.sheet_grid.specs.declared.Cell.{Cell}
-use Rattle.sheet_grid.specs.Sheet.{Sheet, with_entries}
+use Rattle.sheet_grid.specs.Sheet.{Sheet, with_entries, only_cells}
 use Rattle.sheet_grid.specs.Book.{Book}
 use Rattle.line_edits.specs.declared.EditKind.{EditKind}
 use Rattle.line_edits.specs.Edit.{IsValid}
@@ -30,7 +30,7 @@ use Rattle.sheet_lines.specs.Followed.{way_on, book_way, sheet_followed, sheets_
 use Rattle.sheet_lines.specs.Kept.{kept_of, edited_kept, trees_kept, formulas_kept, lines_kept, kept_lines}
 use Rattle.sheet_ids.specs.Ids.{sheet_of, name_of, HasDistinctIds}
 use Rattle.sheet_lines.specs.laws.Stays.{edit_is_way, is_way_on}
-use Rattle.sheet_lines.specs.Parts.{parts, lost_of, only_cells}
+use Rattle.sheet_lines.specs.Parts.{parts, lost_of}
 use Rattle.sheet_lines.specs.laws.PartLaws.{lost_laid}
 
 -- the cells of a sheet, with trees that are those kept of them

@@ -1,5 +1,5 @@
 -- The numbers of what fits are canonical, and what encoding asks of diffs.
-use Rattle.std.proofs.Common.{◌≡◌, ℕ, ℤ, true, false, ◌<◌, ◌^◌, List, [], ◌∷◌, Option, Some, None}
+use Rattle.std.proofs.Common.{◌≡◌, ℤ, true, false, ◌<◌, ◌^◌, List, [], ◌∷◌, Option, Some, None}
 use Rattle.std.specs.Prelude.{IfSome, IsTrue}
 use Rattle.std.specs.FinMap.{get}
 use Rattle.std.specs.List.{AllByRecursion, list_all}

@@ -1,7 +1,6 @@
 -- The three laws of the parts of a renamed sheet, and of a changed defined name.
-use Rattle.std.proofs.Common.{ℕ, ◌^◌, ◌<◌, ◌≤◌, List, length, refl, arith}
+use Rattle.std.proofs.Common.{◌^◌, ◌<◌, ◌≤◌, length, refl, arith}
 use Rattle.std.specs.Prelude.{IfSome}
-use Rattle.std.proofs.lemmas.List.{length-append}
 use Rattle.std.proofs.lemmas.Map.Lookups.{exact_unsigned}
 use Rattle.std.specs.Cmp.{nat_cmp_total}
 use Rattle.std.specs.Int.{w64, to_be_bytes}
@@ -22,7 +21,7 @@ use Rattle.grid_wire.specs.NameBytes.{spell_name, FitsName}
 use Rattle.grid_wire.specs.laws.NameLaws.{name_format}
 use Rattle.rule_wire.specs.FormattingBytes.{spell_formatting, FitsFormatting}
 use Rattle.rule_wire.specs.laws.FormattingLaws.{formatting_format}
-use Rattle.lines_wire.specs.PartBytes.{spell_sheet_place, spell_sheet_index, FitsSheetIndex}
+use Rattle.lines_wire.specs.PartBytes.{spell_sheet_index, FitsSheetIndex}
 use Rattle.lines_wire.specs.laws.PartLaws.{sheet_index_format, sheet_index_some}
 use Rattle.lines_wire.specs.laws.KeptLaws.{formulas_format}
 use Rattle.sheet_wire.specs.TreesBytes.{spell_trees, FitsTrees}

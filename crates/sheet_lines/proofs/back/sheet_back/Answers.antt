@@ -10,10 +10,10 @@ use Rattle.line_map.specs.Maps.{lost_along, places_restored}
 use Rattle.line_routes.specs.Way.{way}
 use Rattle.sheet_grid.specs.CanonicalCell.{IsCanonicalCell, CanonicalCells}
 use Rattle.sheet_lines.specs.laws.Stays.{HasCanonicalNumbers, back_are, numbers_stay}
-use Rattle.sheet_grid.specs.Sheet.{with_entries}
+use Rattle.sheet_grid.specs.Sheet.{with_entries, only_cells}
 use Rattle.line_map.specs.Contents.{cell_carried, cell_restored}
 use Rattle.sheet_lines.specs.Part.{part_restored}
-use Rattle.sheet_lines.specs.Parts.{parts, only_cells}
+use Rattle.sheet_lines.specs.Parts.{parts}
 use Rattle.std.proofs.lemmas.Result.{IfOk-weaker}
 use Rattle.sheet_lines.proofs.back.sheet_back.Goals as goal
 

@@ -1,4 +1,4 @@
-use Rattle.std.proofs.Common.{◌≡◌, ap, length, arith}
+use Rattle.std.proofs.Common.{ap, length, arith}
 use Rattle.sheet_naming.specs.laws.LegalNames.{ending_length}
 use Rattle.sheet_naming.proofs.names.copy_text.Goals as goal
 

@@ -1,5 +1,5 @@
 -- Answers for a map in the order of its keys, of which contracts see what stands for the finite map of its entries.
-use Rattle.std.proofs.Common.{◌≡◌, ◌↔◌, ℕ, Bool, IsTrue, nat_eq, cond, List, Option, length, sym, ap, subst, ◌∙◌}
+use Rattle.std.proofs.Common.{◌≡◌, ◌↔◌, ℕ, Bool, false, IsTrue, nat_eq, cond, List, [], ◌∷◌, ◌++◌, Option, Some, None, length, refl, sym, ap, subst, ◌∙◌}
 use Rattle.std.specs.declared.cmp.Ordering.{Ordering}
 use Rattle.std.specs.Bool.{Decides}
 use Rattle.std.specs.Cmp.{IsTotalOrder, unsigned_Decides}
@@ -9,11 +9,17 @@ use Rattle.std.specs.FinMap as fin
 use Rattle.std.specs.FinMap.{FinMap, from_entries, len-entries, len-empty, empty_of_len}
 use Rattle.std.specs.List.{All, AllZip}
 use Rattle.std.specs.Map.{lookup, keys_of, remove_entry}
-use Rattle.std.specs.Ordering.{is_eq}
+use Rattle.std.specs.Ordering.{is_eq, is_gt, is_lt, is_le, ordering_reverse}
+use Rattle.std.specs.Option.{IfSome, IsSome}
+use Rattle.std.specs.List.{slice_get, filter}
+use Rattle.std.specs.declared.ops.Bound.TheVariants.{Included, Unbounded}
+use Rattle.std.specs.declared.cmp.Ordering.TheVariants.{Less, Equal, Greater}
+use Rattle.std.specs.BTreeMap.Range.{IsRangeOf, IsEntryInRange, IsLeBy, entries_between}
+use Rattle.std.proofs.Math.Bool.{and-true}
 use Rattle.std.proofs.lemmas.Map.Entries.{entries_from_clone}
 use Rattle.std.proofs.lemmas.Map.Lookups.{CmpEqualImpliesEq}
 use Rattle.std.proofs.lemmas.Map.Views.{All-keys-insert_entry, All-map-remove_entry}
-use Rattle.base_values.specs.KeyMap.{with_entry, with_entries, same_entry, same_entries, IsInside}
+use Rattle.base_values.specs.KeyMap.{with_entry, with_entries, same_entry, same_entries, from_key, IsFirstFrom, IsLastUpTo, IsInside}
 use Rattle.base_values.specs.laws.KeyMap.{get-model, entries-model, keys-model, with_entry-model, made_of_entries, inside_of_entries}
 
 -- the code compares keys by S, whose equality is D. What contracts see stands for a map in the same order, R
@@ -49,9 +55,51 @@ module _ {K X M : Type 0} {S R : K → K → Ordering} {D : K → K → Bool}
         (subst (λ (O : K → K → Ordering). (q : K) → lookup (is_at (O q)) o.entries ≡ cond (is_at (O key) q) w (lookup (is_at (O q)) n.entries)) same there)
         ∙ ap (λ m. with_entry m key w) seen_is
 
+    -- a key that the entries hold
+    found : (q : K) → IsSome (fin.get (seen map) q) → IsSome (lookup (is_at (S q)) n.entries)
+    found q there = subst IsSome (sym (read q _ refl)) there
+
+    -- the first of the entries from a key on
+    pub first-seen : (key : K) (r : List (K × X)) → IsRangeOf S (Included key) Unbounded n r → (e : K × X) (t : List (K × X)) → r ≡ e ∷ t → IsFirstFrom (seen map) key (Some e)
+    first-seen key r h e t is =
+        let at : IsEntryInRange S (Included key) Unbounded n e = subst (λ xs. IfSome (slice_get xs 0) (IsEntryInRange S (Included key) Unbounded n)) is h.1
+        in (
+          sym (read e.0 (Some e.1) (sym at.1)),
+          subst (λ O. IsLeBy O key e.0) same at.0.0,
+          λ q below there.
+              subst (λ O. IsLeBy O e.0 q) same
+              (subst (λ xs. IfSome (slice_get xs 0) (λ f. IsLeBy S f.0 q)) is (h.2 q (subst (λ O. IsLeBy O key q) (sym same) below, tt) (found q there))),
+        )
+
+    pub none_from-seen : (key : K) (r : List (K × X)) → IsRangeOf S (Included key) Unbounded n r → r ≡ [] → IsFirstFrom (seen map) key None
+    none_from-seen key r h is = λ q below. sym (read q None (sym (h.5 is q (subst (λ O. IsLeBy O key q) (sym same) below, tt))))
+
+    -- the last of the entries up to a key
+    pub last-seen : (key : K) (r : List (K × X)) → IsRangeOf S Unbounded (Included key) n r → (e : K × X) (t : List (K × X)) → r ≡ t ++ e ∷ [] → IsLastUpTo (seen map) key (Some e)
+    last-seen key r h e t is = (
+      sym (read e.0 (Some e.1) (sym (h.3 e t is).1)),
+      subst (λ O. IsLeBy O e.0 key) same (h.3 e t is).0.1,
+      λ q below there.
+          ap is_gt (total_seen.antisymm q e.0) ∙ turned (R e.0 q)
+          ∙ subst (λ O. is_lt (O e.0 q) ≡ false) same (h.4 e t is q (tt, subst (λ O. IsLeBy O q key) (sym same) below) (found q there)),
+    )
+      where
+        turned : (o : Ordering) → is_gt (ordering_reverse o) ≡ is_lt o
+        turned Less = refl
+        turned Equal = refl
+        turned Greater = refl
+
+    pub none_up_to-seen : (key : K) (r : List (K × X)) → IsRangeOf S Unbounded (Included key) n r → r ≡ [] → IsLastUpTo (seen map) key None
+    none_up_to-seen key r h is = λ q below. sym (read q None (sym (h.5 is q (tt, subst (λ O. IsLeBy O q key) (sym same) below))))
+
     module _ (ordered : IsOrdered R n) where
       pub entries-seen : n.entries ≡ fin.entries (seen map)
       entries-seen = sym (entries-model R total_seen exact_seen n.entries ordered) ∙ ap fin.entries seen_is
+
+      pub from_key-seen : (key : K) (r : List (K × X)) → r ≡ entries_between S (Included key) Unbounded n.entries → r ≡ from_key R key (fin.entries (seen map))
+      from_key-seen key r between =
+          between ∙ (λ i. filter (λ e. and-true (is_le (S key e.0)) i) n.entries) ∙ ap (λ (O : K → K → Ordering). filter (λ e. is_le (O key e.0)) n.entries) same
+          ∙ ap (from_key R key) entries-seen
 
       pub keys-seen : keys n ≡ fin.keys (seen map)
       keys-seen = sym (keys-model total_seen exact_seen n ordered) ∙ ap fin.keys seen_is

@@ -1,7 +1,7 @@
 -- The name of each error, as it is printed.
 use Rattle.std.specs.Prelude.{ℕ, List, codes}
 use Rattle.base_values.specs.declared.error.EditError.{EditError}
-use Rattle.base_values.specs.declared.error.EditError.TheVariants.{NoMemory, InvalidSheet, InvalidRow, InvalidColumn, InvalidArea, BadCount, OverEdge, TargetOutOfBounds, SplitsArray, SplitsMerge, PartialMerge, CutMerge, PartialArray, NothingToFill, CoveredCell, ArrayCell, MergeOverlap, NoMerge, SheetName, OnlySheet, SheetIds, UnknownName, NameTaken, BadName, BadFormula, StylePath, StyleValue, FrozenCount, NegativeSize, LocaleName, LanguageName, ZoneName, StylesShape, RuleIndex, RuleNumbers, ParseDiffs, ParseWorkbook, DiffRefused, IllFormed}
+use Rattle.base_values.specs.declared.error.EditError.TheVariants.{NoMemory, InvalidSheet, InvalidRow, InvalidColumn, InvalidArea, BadCount, OverEdge, TargetOutOfBounds, SplitsArray, SplitsMerge, PartialMerge, CutMerge, PartialArray, NothingToFill, CoveredCell, ArrayCell, MergeOverlap, NoMerge, SheetName, OnlySheet, SheetIds, UnknownName, NameTaken, BadName, BadFormula, StylePath, StyleValue, FrozenCount, NegativeSize, LocaleName, LanguageName, ZoneName, StylesShape, RuleIndex, RuleNumbers, ParseDiffs, ParseWorkbook, DiffRefused, IllFormed, BadOrder, NoSnapshot, OutOfLog, LogFull}
 
 abbrev pub name_of : EditError → List ℕ
 name_of NoMemory = codes "NoMemory"
@@ -43,3 +43,7 @@ name_of ParseDiffs = codes "ParseDiffs"
 name_of ParseWorkbook = codes "ParseWorkbook"
 name_of (DiffRefused entry diff) = codes "DiffRefused"
 name_of (IllFormed rule) = codes "IllFormed"
+name_of BadOrder = codes "BadOrder"
+name_of NoSnapshot = codes "NoSnapshot"
+name_of OutOfLog = codes "OutOfLog"
+name_of LogFull = codes "LogFull"

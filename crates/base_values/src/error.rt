@@ -87,6 +87,14 @@ pub enum EditError {
     DiffRefused { entry: u64, diff: u64 },
     #[error("the workbook breaks rule {rule} of well-formed workbooks")]
     IllFormed { rule: u8 },
+    #[error("the order of the lines has not each of them once")]
+    BadOrder,
+    #[error("no snapshot stands at that position")]
+    NoSnapshot,
+    #[error("the log does not reach to that position")]
+    OutOfLog,
+    #[error("no position is left in the log")]
+    LogFull,
 }
 
 impl EditError {
@@ -136,6 +144,10 @@ impl EditError {
             EditError::ParseWorkbook => "ParseWorkbook",
             EditError::DiffRefused { entry: _, diff: _ } => "DiffRefused",
             EditError::IllFormed { rule: _ } => "IllFormed",
+            EditError::BadOrder => "BadOrder",
+            EditError::NoSnapshot => "NoSnapshot",
+            EditError::OutOfLog => "OutOfLog",
+            EditError::LogFull => "LogFull",
         }
     }
 }

@@ -1,9 +1,9 @@
-ghost use Rattle.std.specs.Prelude.{◌≡◌, ◌<◌, ◌^◌, ◌↔◌, ℕ, IsTrue, OnOk, OnErr, IfOk, IsOkUnless, All};
-ghost use Rattle.std.specs.Option.{option_copied};
+ghost use Rattle.std.specs.Prelude.{◌≡◌, ◌≢◌, ◌<◌, ◌^◌, ◌↔◌, ℕ, IsTrue, OnOk, OnErr, IfOk, IsOk, IsOkUnless, All};
+ghost use Rattle.std.specs.Option.{option_copied, option_map};
 ghost use Rattle.std.specs.FinMap as fin;
 ghost use Rattle.std.specs.Cmp.{on_per, on_equiv};
 ghost use Rattle.std.specs.declared.cmp.Ordering.{Ordering};
-ghost use Rattle.base_values.specs.KeyMap.{with_entry, with_entries, put_under, same_entries};
+ghost use Rattle.base_values.specs.KeyMap.{with_entry, with_entries, put_under, same_entries, from_key, IsFirstFrom, IsLastUpTo};
 ghost use Rattle.base_values.specs.laws.KeyMap.{same_entries_laws, same_entries_equiv};
 ghost use Rattle.base_values.specs.declared.error.EditError.TheVariants.{NoMemory};
 
@@ -12,7 +12,7 @@ use crate::exact::{Exact, copy_of};
 use crate::items::Items;
 use std::alloc::{AllocError, Global};
 use std::collections::BTreeMap;
-use std::collections::btree_map::Iter;
+use std::collections::btree_map::{Iter, Range};
 use std::marker::{Model, PhantomData};
 
 /// What the keys of a map are, and what each of them fulfils.
@@ -110,6 +110,34 @@ impl<K: MapKey<V>, V> KeyMap<K, V> {
         self.map.get(&key)
     }
 
+    /// The first entry from a key on. It takes no memory.
+    pub fn first_from(&self, key: K::Key) -> Option<(K::Key, &V)>
+        ensures { IsFirstFrom (K.seen self.now) key (option_map (λ e. (e.0, e.1.now)) result) }
+    {
+        match self.map.range(key..).next() {
+            Some((first, value)) => Some((*first, value)),
+            None => None,
+        }
+    }
+
+    /// The last entry up to a key. It takes no memory.
+    pub fn last_up_to(&self, key: K::Key) -> Option<(K::Key, &V)>
+        ensures { IsLastUpTo (K.seen self.now) key (option_map (λ e. (e.0, e.1.now)) result) }
+    {
+        match self.map.range(..=key).next_back() {
+            Some((last, value)) => Some((*last, value)),
+            None => None,
+        }
+    }
+
+    /// The entries from a key on, in ascending order.
+    pub fn entries_from(&self, key: K::Key) -> Range<'_, K::Key, V>
+        ensures entries { result ≡ from_key K.order key (fin.entries (K.seen self.now)) }
+        ensures inside { All (λ entry. K.fits entry.0) result }
+    {
+        self.map.range(key..)
+    }
+
     /// The entries in ascending order.
     pub fn iter(&self) -> Iter<'_, K::Key, V>
         ensures entries { result ≡ fin.entries (K.seen self.now) }
@@ -145,11 +173,13 @@ impl<K: MapKey<V>, V: Drop> KeyMap<K, V> {
         })
     }
 
-    /// Sets the entry of a key, and returns the one before. `NoMemory` leaves the map as it was.
+    /// Sets the entry of a key, and returns the one before. `NoMemory` leaves the map as it was;
+    /// it comes only at a key that has no entry.
     pub fn insert(&mut self, key: K::Key, value: V) -> Result<Option<V>, EditError>
         requires { K.fits key }
         ensures before { IfOk result (λ before. before ≡ fin.get (K.seen self.old) key) }
         ensures ok { OnOk result (K.seen self.new ≡ fin.insert (K.seen self.old) key value) }
+        ensures there { fin.get (K.seen self.old) key ≢ None → IsOk result }
         ensures err { OnErr result (self.new ≡ self.old) }
         ensures only { IsOkUnless result NoMemory }
     {

@@ -5,7 +5,7 @@ use Rattle.base_values.specs.ErrorNames.{name_of}
 use Rattle.std.specs.Cmp.Lexicographic.{pointwise}
 use Rattle.std.specs.Prelude.{nat_eq}
 use Rattle.base_values.specs.declared.error.EditError.{EditError}
-use Rattle.base_values.specs.declared.error.EditError.TheVariants.{NoMemory, InvalidSheet, InvalidRow, InvalidColumn, InvalidArea, BadCount, OverEdge, TargetOutOfBounds, SplitsArray, SplitsMerge, PartialMerge, CutMerge, PartialArray, NothingToFill, CoveredCell, ArrayCell, MergeOverlap, NoMerge, SheetName, OnlySheet, SheetIds, UnknownName, NameTaken, BadName, BadFormula, StylePath, StyleValue, FrozenCount, NegativeSize, LocaleName, LanguageName, ZoneName, StylesShape, RuleIndex, RuleNumbers, ParseDiffs, ParseWorkbook, DiffRefused, IllFormed}
+use Rattle.base_values.specs.declared.error.EditError.TheVariants.{NoMemory, InvalidSheet, InvalidRow, InvalidColumn, InvalidArea, BadCount, OverEdge, TargetOutOfBounds, SplitsArray, SplitsMerge, PartialMerge, CutMerge, PartialArray, NothingToFill, CoveredCell, ArrayCell, MergeOverlap, NoMerge, SheetName, OnlySheet, SheetIds, UnknownName, NameTaken, BadName, BadFormula, StylePath, StyleValue, FrozenCount, NegativeSize, LocaleName, LanguageName, ZoneName, StylesShape, RuleIndex, RuleNumbers, ParseDiffs, ParseWorkbook, DiffRefused, IllFormed, BadOrder, NoSnapshot, OutOfLog, LogFull}
 
 -- the errors without numbers
 abbrev pub plain_errors : List EditError
@@ -13,7 +13,8 @@ plain_errors =
     NoMemory ∷ InvalidSheet ∷ InvalidRow ∷ InvalidColumn ∷ InvalidArea ∷ BadCount ∷ OverEdge ∷ TargetOutOfBounds ∷ SplitsArray ∷ SplitsMerge ∷
     PartialMerge ∷ CutMerge ∷ PartialArray ∷ NothingToFill ∷ CoveredCell ∷ ArrayCell ∷ MergeOverlap ∷ NoMerge ∷ SheetName ∷ OnlySheet ∷ SheetIds ∷
     UnknownName ∷ NameTaken ∷ BadName ∷ BadFormula ∷ StylePath ∷ StyleValue ∷ FrozenCount ∷ NegativeSize ∷ LocaleName ∷ LanguageName ∷ ZoneName ∷
-    StylesShape ∷ RuleIndex ∷ RuleNumbers ∷ ParseDiffs ∷ ParseWorkbook ∷ []
+    StylesShape ∷ RuleIndex ∷ RuleNumbers ∷ ParseDiffs ∷ ParseWorkbook ∷
+    BadOrder ∷ NoSnapshot ∷ OutOfLog ∷ LogFull ∷ []
 
 -- the first number of an error, or 0
 abbrev pub first_number : EditError → ℕ

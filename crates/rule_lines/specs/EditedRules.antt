@@ -9,7 +9,7 @@ use Rattle.rule_lines.specs.Rules.{rules_carried, rules_kept, rules_restored, Ru
 
 -- how the map meets what stands on the edited sheet, which has this name
 abbrev pub way_on : Way → List ℕ → Way
-way_on w edited = record w { own = edited; edited = edited; is_edited = true }
+way_on w edited = record w { edited = edited; is_edited = true }
 
 abbrev pub edited_carried : Way → EditedRules → EditedRules
 edited_carried w v = record v { rules = rules_carried (way_on w v.edited) v.rules }

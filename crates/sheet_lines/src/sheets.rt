@@ -42,7 +42,7 @@ pub(crate) fn on_sheet<'s, 'a: 's, A: Axis, M: LineMap<A>>(
     ensures way { way result.route ≡ way_on (way route.now) sheet.now }
     ensures is { IsWay (way result.route) }
 {
-    let route = route.on(sheet.get_sheet_id(), sheet.get_name());
+    let route = route.on(sheet.get_sheet_id());
     route.is_way(); // for the proof
     OnSheet {
         alloc,

@@ -7,22 +7,17 @@
 
 mod cell_style;
 mod cell_type;
-mod install;
-mod laws;
-mod open_book;
 mod properties;
 mod reading;
-mod recalc;
 mod structure;
 mod user_model;
 mod view_steps;
 
 pub use base_styles::{BorderArea, BorderType};
 pub use cell_type::CellType;
-pub use laws::edits_go_both_ways;
 pub use name_lists::ScopedName;
+pub use open_book::{ClearAll, Recalc, edits_go_both_ways};
 pub use properties::SheetProperties;
-pub use recalc::{ClearAll, Recalc};
 pub use rule_wire::encode_rule;
 pub use sheet_views::{View, selected_sheet_after_move};
 pub use structure::CellArrayStructure;

@@ -6,12 +6,12 @@ ghost use Rattle.sheet_history.specs.LineDiffs.{along_of};
 ghost use Rattle.sheet_history.specs.declared.LineAxis.TheVariants.{Rows, Columns};
 ghost use Rattle.edit_plans.specs.Edits.{is_silent};
 ghost use Rattle.edit_plans.specs.Edits.Edit.{Lines, MoveLines};
-ghost use Rattle.user_model.specs.Machine.{edit_of};
-ghost use Rattle.user_model.specs.Stands.{Steps};
-ghost use Rattle.user_model.specs.Values.{IsMade, Makes};
+ghost use Rattle.open_book.specs.Machine.{edit_of};
+ghost use Rattle.open_book.specs.Stands.{Steps};
+ghost use Rattle.open_book.specs.Values.{IsMade, Makes};
 
 use super::UserModel;
-use crate::recalc::Recalc;
+use open_book::Recalc;
 use base_axis::{Axis, ColumnAxis, RowAxis};
 use base_values::EditError;
 use line_map::EditKind;

@@ -216,7 +216,7 @@ fn undo_counted(
     ensures stale_redo { result.1 ≡ stale_after is_recorded stale_redo (length (undone history.old).redo) }
 {
     match history.undo() {
-        Ok(()) => (
+        Ok(_) => (
             stale_after(is_recorded, stale_undo, history.undo_len()),
             stale_after(is_recorded, stale_redo, history.redo_len()),
         ),
@@ -239,7 +239,7 @@ fn redo_counted(
     ensures stale_redo { result.1 ≡ stale_after is_recorded stale_redo (length (redone history.old).redo) }
 {
     match history.redo() {
-        Ok(()) => (
+        Ok(_) => (
             stale_after(is_recorded, stale_undo, history.undo_len()),
             stale_after(is_recorded, stale_redo, history.redo_len()),
         ),

@@ -185,16 +185,16 @@ impl<R: Recalc + Drop> UserModel<R> {
     pub fn move_rows_action(
         &mut self,
         sheet: u32,
-        first: i32,
+        row: i32,
         count: i32,
         delta: i32,
     ) -> Result<(), EditError>
-        ensures next { Steps result self.old.document self.new.document (edit_of (MoveLines sheet Rows first count delta)) }
-        ensures output { OnOk result (Makes (is_silent (MoveLines sheet Rows first count delta) self.old.document.book) R.Fits self.old self.new) }
+        ensures next { Steps result self.old.document self.new.document (edit_of (MoveLines sheet Rows row count delta)) }
+        ensures output { OnOk result (Makes (is_silent (MoveLines sheet Rows row count delta) self.old.document.book) R.Fits self.old self.new) }
         ensures err { OnErr result (self.new ≡ self.old) }
         ensures paused { self.new.paused ≡ self.old.paused }
     {
-        self.move_lines::<RowAxis>(sheet, LineAxis::Rows, first, count, delta)
+        self.move_lines::<RowAxis>(sheet, LineAxis::Rows, row, count, delta)
     }
 
     /// Moves columns of the sheet at an index, as many as the count, from a first one on, by `delta`
@@ -213,15 +213,15 @@ impl<R: Recalc + Drop> UserModel<R> {
     pub fn move_columns_action(
         &mut self,
         sheet: u32,
-        first: i32,
+        column: i32,
         count: i32,
         delta: i32,
     ) -> Result<(), EditError>
-        ensures next { Steps result self.old.document self.new.document (edit_of (MoveLines sheet Columns first count delta)) }
-        ensures output { OnOk result (Makes (is_silent (MoveLines sheet Columns first count delta) self.old.document.book) R.Fits self.old self.new) }
+        ensures next { Steps result self.old.document self.new.document (edit_of (MoveLines sheet Columns column count delta)) }
+        ensures output { OnOk result (Makes (is_silent (MoveLines sheet Columns column count delta) self.old.document.book) R.Fits self.old self.new) }
         ensures err { OnErr result (self.new ≡ self.old) }
         ensures paused { self.new.paused ≡ self.old.paused }
     {
-        self.move_lines::<ColumnAxis>(sheet, LineAxis::Columns, first, count, delta)
+        self.move_lines::<ColumnAxis>(sheet, LineAxis::Columns, column, count, delta)
     }
 }

@@ -16,7 +16,7 @@ use Rattle.edit_plans.specs.Edits.{changed}
 use Rattle.edit_plans.specs.Edits.Edit.{SetHidden}
 use Rattle.edit_plans.specs.LineEdits.{attrs_set}
 use Rattle.edit_plans.specs.ViewSteps.{line_shown, view_asked}
-use Rattle.user_model.specs.Views.{seen_by}
+use Rattle.open_book.specs.Views.{seen_by}
 
 pub hidden_lines : (index : ℕ) (axis : LineAxis) (first last : ℤ) (hidden : Bool) (w : Book) → IsOk (changed (SetHidden index axis first last hidden) w)
     → IsTrue (has_lines (along_of axis).last first last)

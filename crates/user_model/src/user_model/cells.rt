@@ -10,7 +10,7 @@ use super::UserModel;
 use crate::cell_style::cell_style_at;
 use crate::cell_type::{CellType, type_at};
 use crate::properties::{first_filled, last_filled};
-use crate::recalc::Recalc;
+use open_book::Recalc;
 use base_styles::Style;
 use base_values::EditError;
 

@@ -267,11 +267,7 @@ impl OpenBook {
     ghost use Rattle.open_book.specs.Values.{AreMade, IsMade, LeavesMade, Makes, is_none_left};
 
     /// A workbook with nothing to undo and nothing to send.
-    pub fn new(
-        alloc: Global,
-        workbook: Workbook,
-        language: Language,
-    ) -> Result<OpenBook, EditError>
+    pub fn new(alloc: Global, workbook: Workbook, language: Language) -> Result<OpenBook, EditError>
         ensures document { IfOk result (λ book. document_in book ≡ document (begun language workbook)) }
         ensures only { IsOkUnless result NoMemory }
     {

@@ -34,12 +34,10 @@ mod settings;
 mod sheets;
 mod views;
 
-use open_book::OpenBook;
 use crate::reading::{
     content_text, find_array_place, find_input_place, find_place, link_to, read_at, read_tree_at,
     rectangle, rectangle_of,
 };
-use open_book::{Recalc, Results};
 use crate::structure::{CellArrayStructure, structure_at};
 use base_axis::{Area, MergedCell};
 use base_shared::Shared;
@@ -48,6 +46,7 @@ use base_values::{EditError, Items};
 use edit_plans::{plan_array, plan_input, plan_link, plan_merge, plan_unmerge};
 use formula_tree::Node;
 use line_sizes::line_feeds;
+use open_book::{OpenBook, Recalc, Results};
 use sheet_actions::Model as PlainModel;
 use sheet_grid::{Content, Link, Workbook};
 use sheet_history::DiffList;

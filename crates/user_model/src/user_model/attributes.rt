@@ -11,10 +11,10 @@ ghost use Rattle.open_book.specs.Values.{IsMade};
 
 use super::UserModel;
 use crate::properties::{column_width, frozen_columns, frozen_rows, row_height};
-use open_book::Recalc;
 use crate::view_steps::seen_by_hiding;
 use base_values::EditError;
 use edit_plans::{plan_hidden, plan_size};
+use open_book::Recalc;
 use sheet_history::{LineAxis, SheetField};
 
 impl<R: Recalc + Drop> UserModel<R> {

@@ -8,10 +8,10 @@ ghost use Rattle.user_model.specs.Typing.{fill_asked};
 ghost use Rattle.open_book.specs.Values.{IsMade};
 
 use super::UserModel;
-use open_book::Recalc;
 use base_axis::Area;
 use base_values::EditError;
 use edit_plans::plan_auto_fill;
+use open_book::Recalc;
 use sheet_history::LineAxis;
 
 impl<R: Recalc + Drop> UserModel<R> {

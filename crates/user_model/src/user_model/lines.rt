@@ -11,10 +11,10 @@ ghost use Rattle.open_book.specs.Stands.{Steps};
 ghost use Rattle.open_book.specs.Values.{IsMade, Makes};
 
 use super::UserModel;
-use open_book::Recalc;
 use base_axis::{Axis, ColumnAxis, RowAxis};
 use base_values::EditError;
 use line_map::EditKind;
+use open_book::Recalc;
 use sheet_history::LineAxis;
 
 impl<R: Recalc + Drop> UserModel<R> {

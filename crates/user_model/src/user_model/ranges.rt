@@ -11,12 +11,12 @@ ghost use Rattle.open_book.specs.Values.{IsMade};
 
 use super::UserModel;
 use crate::reading::rectangle_of;
-use open_book::Recalc;
 use crate::view_steps::{pasted_rectangle, seen_by_pasting};
 use base_axis::{Area, MergedCell};
 use base_styles::Style;
 use base_values::EditError;
 use edit_plans::{plan_clear, plan_clear_formatting, plan_pasted, plan_styles};
+use open_book::Recalc;
 use range_styles::Clearing;
 
 impl<R: Recalc + Drop> UserModel<R> {

@@ -18,7 +18,6 @@ ghost use Rattle.open_book.specs.Values.{IsMade};
 use super::UserModel;
 use crate::properties::formattings_in;
 use crate::reading::{find_rule_place, read_tree_at};
-use open_book::Recalc;
 use base_axis::MergedCell;
 use base_shared::Shared;
 use base_values::{EditError, Position};
@@ -28,6 +27,7 @@ use edit_plans::{
 };
 use format_rules::{CfRule, ConditionalFormatting};
 use formula_tree::Node;
+use open_book::Recalc;
 
 impl<R: Recalc + Drop> UserModel<R> {
     /// The formula that a text is read as at a place inside the sheet.

@@ -17,11 +17,11 @@ ghost use Rattle.open_book.specs.Values.{IsMade, Makes, speaking};
 
 use super::UserModel;
 use crate::properties::resolved_text;
-use open_book::Recalc;
 use base_styles::{Color, Theme};
 use base_tables::{Language, get_language, get_locale, get_zone};
 use base_values::EditError;
 use edit_plans::{plan_setting, plan_title, sheet_edits_go_both_ways};
+use open_book::Recalc;
 use sheet_grid::Workbook;
 use sheet_history::Setting;
 

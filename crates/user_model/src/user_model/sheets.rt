@@ -14,7 +14,6 @@ ghost use Rattle.open_book.specs.Values.{IsMade, Makes};
 
 use super::UserModel;
 use crate::properties::{SheetProperties, all_properties, draws_grid_lines};
-use open_book::Recalc;
 use crate::view_steps::{selected_after_deletion, selected_after_field};
 use base_styles::Color;
 use base_values::{EditError, Items};
@@ -23,6 +22,7 @@ use edit_plans::{
     plan_renamed_sheet, selected_by_copy, selected_by_move, selected_by_new,
     sheet_edits_go_both_ways,
 };
+use open_book::Recalc;
 use sheet_grid::{SheetState, Workbook};
 use sheet_history::SheetField;
 

@@ -10,9 +10,9 @@ ghost use Rattle.open_book.specs.Values.{seeing};
 ghost use Rattle.open_book.specs.Views.{sheet_chosen};
 
 use super::UserModel;
-use open_book::Recalc;
 use crate::view_steps::choose_sheet;
 use base_values::EditError;
+use open_book::Recalc;
 use sheet_views::View;
 
 impl<R: Recalc + Drop> UserModel<R> {

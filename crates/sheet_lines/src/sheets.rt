@@ -32,7 +32,7 @@ pub(crate) struct OnSheet<'s, A: Axis, M: LineMap<A>> {
     pub(crate) sheet: &'s Worksheet,
 }
 
-/// How what meets the edited sheet so meets a sheet.
+/// A sheet of the workbook, with the route that leads what stands on it along the edit.
 pub(crate) fn on_sheet<'s, 'a: 's, A: Axis, M: LineMap<A>>(
     alloc: Global,
     route: &Route<'a, A, M>,

@@ -36,9 +36,9 @@ use Rattle.book_sheets.specs.laws.SheetRules.{rules_at}
 use Rattle.book_names.specs.declared.KeptTrees.{KeptTrees}
 use Rattle.book_names.specs.Renaming.{everywhere, trees_kept}
 use Rattle.book_names.specs.laws.Stands.{kept_name_fits, kept_rule_fits, kept_tree_fits}
-use Rattle.book_laws.specs.laws.BothWays.{deletion_both_ways}
-use Rattle.book_laws.specs.laws.ListTests.{passes_at}
-use Rattle.book_laws.specs.laws.SheetDiffLaws.{found_at}
+use Rattle.book_sheets.specs.laws.BothWays.{deletion_both_ways}
+use Rattle.book_sheets.specs.laws.ListTests.{passes_at}
+use Rattle.book_sheets.specs.laws.SheetDiffLaws.{found_at}
 use Rattle.sheet_history.specs.declared.Diff.{Diff}
 use Rattle.sheet_history.specs.declared.Diff.TheVariants.{DeleteSheet as DeletionDiff, RenameSheet as RenameDiff, ChangeName as NameDiff, Rule as RuleDiff, Setting as SettingDiff}
 use Rattle.sheet_history.specs.declared.Setting.{Setting}
@@ -48,7 +48,7 @@ use Rattle.sheet_history.specs.laws.Depth.{AreShallowTrees, IsShallowSheet, is_s
 use Rattle.sheet_history.specs.Diffs.{IsCanonicalDiff, IsCanonicalList}
 use Rattle.sheet_history.specs.laws.Entries.{entry_holds}
 use Rattle.sheet_history.specs.laws.StandingRules.{all_shallow, rule_shallow, sheet_rules_stand}
-use Rattle.entry_records.specs.laws.AtIndex.{there}
+use Rattle.edit_plans.specs.laws.AtIndex.{there}
 use Rattle.sheet_wire.specs.QueueBytes.{IsKnownDiff}
 use Rattle.sheet_wire.specs.laws.Fitting.{known_diff}
 use Rattle.edit_plans.specs.Edits.{Edit, is_of_sheets, record_of}

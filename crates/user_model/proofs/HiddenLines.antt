@@ -11,7 +11,7 @@ use Rattle.sheet_grid.specs.Book.{Book, sheet_at, with_sheet}
 use Rattle.sheet_views.specs.declared.View.{View}
 use Rattle.sheet_history.specs.declared.LineAxis.{LineAxis}
 use Rattle.sheet_history.specs.LineDiffs.{along_of}
-use Rattle.entry_records.specs.LineRecords.{lines_set}
+use Rattle.edit_plans.specs.LineRecords.{lines_set}
 use Rattle.edit_plans.specs.Edits.{changed}
 use Rattle.edit_plans.specs.Edits.Edit.{SetHidden}
 use Rattle.edit_plans.specs.LineEdits.{attrs_set}

@@ -41,10 +41,17 @@ impl Worksheet {
         self.shared_style(style)
     }
 
-    fn shared_tree(&self, tree: Node) -> Result<Shared<Node>, EditError>
-        ensures { Returns result (Ok tree) }
+    /// A tree, to be shared with the cell at a row and a column.
+    fn shared_tree_at(&self, row: i32, column: i32, tree: Node) -> Result<Shared<Node>, EditError>
+        ensures { Returns result (map_ok (λ _. tree) (place_of row column)) }
     {
-        Ok(Shared::new(self.name.allocator(), tree)?)
+        match place_of(row, column) {
+            Ok(_) => Ok(Shared::new(self.name.allocator(), tree)?),
+            Err(error) => {
+                drop(tree);
+                Err(error)
+            }
+        }
     }
 
     /// A copy of a text, for the cell at a row and a column.
@@ -161,7 +168,7 @@ impl Worksheet {
         requires { IsTrue (has_canonical_numbers value) }
         ensures { Changes result self.old self.new (content_put self.old row column (Formula value) style.now) }
     {
-        let tree = self.shared_tree(value)?;
+        let tree = self.shared_tree_at(row, column, value)?;
         self.put_content(row, column, Content::Formula(tree), style)
     }
 
@@ -179,7 +186,7 @@ impl Worksheet {
         requires { IsTrue (has_canonical_numbers value) }
         ensures { Changes result self.old self.new (content_put self.old row column (Dynamic value) style.now) }
     {
-        let tree = self.shared_tree(value)?;
+        let tree = self.shared_tree_at(row, column, value)?;
         self.put_content(row, column, Content::Dynamic(tree), style)
     }
 
@@ -200,7 +207,7 @@ impl Worksheet {
         requires { IsTrue (has_canonical_numbers value) }
         ensures { Changes result self.old self.new (content_put self.old row column (Array value width height) style.now) }
     {
-        let tree = self.shared_tree(value)?;
+        let tree = self.shared_tree_at(row, column, value)?;
         let content = Content::Array {
             tree,
             width,

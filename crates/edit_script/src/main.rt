@@ -12,6 +12,3 @@ fn main(rt: HostRuntime) -> ExitCode {
     let outcome = run_script(rt.alloc(), &mut input, &mut output);
     ExitCode::from(status_of(&outcome))
 }
-
-#[cfg(test)]
-mod tests;

@@ -1,4 +1,4 @@
-//! Tests of user models, whose own check is long. What scripts show of them is in the tables of `edit_script`.
+//! Tests of user models, whose own check is long. What scripts show of them is in the cases of `script_rows`.
 #![tactic(auto)]
 
 pub use user_model::UserModel;

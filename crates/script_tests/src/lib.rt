@@ -1,8 +1,7 @@
-//! Tests of a script's lines, ends and printed workbooks.
+//! Tests of a script's ends and of printed workbooks.
 #![tactic(auto)]
 
 pub use script_dump::push_dump;
-pub use script_lines::read_command;
 
 #[cfg(test)]
 mod tests;

@@ -1,3 +1,2 @@
 mod dump;
 mod ends;
-mod lines;

@@ -1,5 +1,5 @@
 // The calls of a model where there is memory, and a workbook that is no model. What edits of lines make of a
-// workbook, and which are refused, is in the scripts of `edit_script`.
+// workbook, and which are refused, is in the cases of `script_rows`.
 use base_tables::{Locale, Zone};
 use base_values::{EditError, Items};
 use sheet_actions::Model;

@@ -1,5 +1,5 @@
 // Which cells an array has. What stands in the way of contents, arrays and merges is in the scripts of
-// `edit_script`.
+// `script_rows`.
 use super::*;
 
 /// How cells stand to arrays at A1:B1 and D3:E4.

@@ -1,5 +1,5 @@
 // Conditional rules that are changed, rules of several parts, and priorities that end. How rules are added, deleted
-// and exchanged otherwise, and what they become under other edits, is in the scripts of `edit_script`.
+// and exchanged otherwise, and what they become under other edits, is in the cases of `script_rows`.
 ghost use Rattle.format_rules.specs.Canonical.{IsCanonicalFormatting};
 
 use super::values::{Counted, Counting, opened, run_counted};

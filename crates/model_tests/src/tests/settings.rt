@@ -1,5 +1,5 @@
 // What a workbook has as a whole, the language in which it is shown, and what its cells are. How settings are refused
-// and taken back is in the scripts of `edit_script`.
+// and taken back is in the cases of `script_rows`.
 use super::*;
 
 /// What was set is told by its name, and what was before when it is taken back.

@@ -1,5 +1,5 @@
 // What is selected of sheets that come, go, move and hide, how sheets are listed, and ids that end. What becomes of
-// the sheets themselves is in the scripts of `edit_script`.
+// the sheets themselves is in the cases of `script_rows`.
 use super::senders::{Sender, sent};
 use super::*;
 

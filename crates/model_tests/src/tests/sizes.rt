@@ -1,5 +1,5 @@
 // Sizes of rows and columns and counts of frozen ones as they are told, and what is selected where lines are hidden.
-// How they are set, refused and taken back is in the scripts of `edit_script`.
+// How they are set, refused and taken back is in the cases of `script_rows`.
 use super::*;
 
 /// Hidden lines have no size, and those that have none of their own the usual one.

@@ -1,4 +1,4 @@
-// Styles that are pasted. How they are changed and cleared is in the scripts of `edit_script`.
+// Styles that are pasted. How they are changed and cleared is in the cases of `script_rows`.
 use super::*;
 
 /// A style whose font has this size.

@@ -1,0 +1,20 @@
+//! Runs cases from standard input, each a script with the output that it must have, and writes whether each has it
+//! (docs/CONTRIBUTING.md, "Cases").
+#![tactic(auto)]
+
+mod case;
+mod compare;
+mod rows;
+mod verdict;
+
+use crate::rows::write_verdicts;
+use script_ends::{StdSink, StdSource, status_of};
+use std::io;
+use std::process::ExitCode;
+
+fn main(rt: HostRuntime) -> ExitCode {
+    let mut input = StdSource::new(rt.reader());
+    let mut output = StdSink::new(io::writer(&rt));
+    let outcome = write_verdicts(rt.alloc(), &mut input, &mut output);
+    ExitCode::from(status_of(&outcome))
+}

@@ -1,4 +1,5 @@
 mod formattings;
+mod keys;
 mod names;
 mod naming;
 mod navigation;

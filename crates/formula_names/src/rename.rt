@@ -116,66 +116,111 @@ fn renamed(
     match node {
         Node::Boolean(value) => Ok(Node::Boolean(*value)),
         Node::Number(value) => Ok(Node::Number(*value)),
-        Node::Text(text) => Ok(Node::Text(text.clone()?)),
-        Node::Reference(sheet, corner) => {
-            Ok(Node::Reference(renamed_sheet(sheet, reach, old, new)?, *corner))
-        }
-        Node::Range(sheet, first, second) => {
-            Ok(Node::Range(renamed_sheet(sheet, reach, old, new)?, *first, *second))
-        }
-        Node::Colon(a, b) => Ok(Node::Colon(
-            child(alloc, a, reach, old, new)?,
-            child(alloc, b, reach, old, new)?,
-        )),
-        Node::Concatenate(a, b) => Ok(Node::Concatenate(
-            child(alloc, a, reach, old, new)?,
-            child(alloc, b, reach, old, new)?,
-        )),
-        Node::Compare(kind, a, b) => Ok(Node::Compare(
-            *kind,
-            child(alloc, a, reach, old, new)?,
-            child(alloc, b, reach, old, new)?,
-        )),
-        Node::Sum(kind, a, b) => Ok(Node::Sum(
-            *kind,
-            child(alloc, a, reach, old, new)?,
-            child(alloc, b, reach, old, new)?,
-        )),
-        Node::Product(kind, a, b) => Ok(Node::Product(
-            *kind,
-            child(alloc, a, reach, old, new)?,
-            child(alloc, b, reach, old, new)?,
-        )),
-        Node::Power(a, b) => Ok(Node::Power(
-            child(alloc, a, reach, old, new)?,
-            child(alloc, b, reach, old, new)?,
-        )),
-        Node::Unary(kind, a) => Ok(Node::Unary(*kind, child(alloc, a, reach, old, new)?)),
-        Node::Call(function, all) => Ok(Node::Call(
-            *function,
-            children(alloc, all, reach, old, new)?,
-        )),
-        Node::NamedCall(name, all) => Ok(Node::NamedCall(
-            name.clone()?,
-            children(alloc, all, reach, old, new)?,
-        )),
-        Node::Array(lines) => Ok(Node::Array(lines.clone()?)),
-        Node::Name(name) => Ok(Node::Name(renamed_text(name, reach, old, new)?)),
+        Node::Text(text) => match text.clone() {
+            Ok(text) => Ok(Node::Text(text)),
+            Err(error) => Err(error),
+        },
+        Node::Reference(sheet, corner) => match renamed_sheet(sheet, reach, old, new) {
+            Ok(sheet) => Ok(Node::Reference(sheet, *corner)),
+            Err(error) => Err(error),
+        },
+        Node::Range(sheet, first, second) => match renamed_sheet(sheet, reach, old, new) {
+            Ok(sheet) => Ok(Node::Range(sheet, *first, *second)),
+            Err(error) => Err(error),
+        },
+        Node::Colon(a, b) => match child(alloc, a, reach, old, new) {
+            Ok(a) => match child(alloc, b, reach, old, new) {
+                Ok(b) => Ok(Node::Colon(a, b)),
+                Err(error) => Err(error),
+            },
+            Err(error) => Err(error),
+        },
+        Node::Concatenate(a, b) => match child(alloc, a, reach, old, new) {
+            Ok(a) => match child(alloc, b, reach, old, new) {
+                Ok(b) => Ok(Node::Concatenate(a, b)),
+                Err(error) => Err(error),
+            },
+            Err(error) => Err(error),
+        },
+        Node::Compare(kind, a, b) => match child(alloc, a, reach, old, new) {
+            Ok(a) => match child(alloc, b, reach, old, new) {
+                Ok(b) => Ok(Node::Compare(*kind, a, b)),
+                Err(error) => Err(error),
+            },
+            Err(error) => Err(error),
+        },
+        Node::Sum(kind, a, b) => match child(alloc, a, reach, old, new) {
+            Ok(a) => match child(alloc, b, reach, old, new) {
+                Ok(b) => Ok(Node::Sum(*kind, a, b)),
+                Err(error) => Err(error),
+            },
+            Err(error) => Err(error),
+        },
+        Node::Product(kind, a, b) => match child(alloc, a, reach, old, new) {
+            Ok(a) => match child(alloc, b, reach, old, new) {
+                Ok(b) => Ok(Node::Product(*kind, a, b)),
+                Err(error) => Err(error),
+            },
+            Err(error) => Err(error),
+        },
+        Node::Power(a, b) => match child(alloc, a, reach, old, new) {
+            Ok(a) => match child(alloc, b, reach, old, new) {
+                Ok(b) => Ok(Node::Power(a, b)),
+                Err(error) => Err(error),
+            },
+            Err(error) => Err(error),
+        },
+        Node::Unary(kind, a) => match child(alloc, a, reach, old, new) {
+            Ok(a) => Ok(Node::Unary(*kind, a)),
+            Err(error) => Err(error),
+        },
+        Node::Call(function, all) => match children(alloc, all, reach, old, new) {
+            Ok(all) => Ok(Node::Call(*function, all)),
+            Err(error) => Err(error),
+        },
+        Node::NamedCall(name, all) => match name.clone() {
+            Ok(name) => match children(alloc, all, reach, old, new) {
+                Ok(all) => Ok(Node::NamedCall(name, all)),
+                Err(error) => Err(error),
+            },
+            Err(error) => Err(error),
+        },
+        Node::Array(lines) => match lines.clone() {
+            Ok(lines) => Ok(Node::Array(lines)),
+            Err(error) => Err(error),
+        },
+        Node::Name(name) => match renamed_text(name, reach, old, new) {
+            Ok(name) => Ok(Node::Name(name)),
+            Err(error) => Err(error),
+        },
         Node::Error(error) => Ok(Node::Error(*error)),
-        Node::ParseError(text) => Ok(Node::ParseError(text.clone()?)),
+        Node::ParseError(text) => match text.clone() {
+            Ok(text) => Ok(Node::ParseError(text)),
+            Err(error) => Err(error),
+        },
         Node::EmptyArgument => Ok(Node::EmptyArgument),
-        Node::Spill(a) => Ok(Node::Spill(child(alloc, a, reach, old, new)?)),
-        Node::Lambda(parameters, a) => Ok(Node::Lambda(
-            parameters.clone()?,
-            child(alloc, a, reach, old, new)?,
-        )),
-        Node::LambdaCall(a, all) => Ok(Node::LambdaCall(
-            child(alloc, a, reach, old, new)?,
-            children(alloc, all, reach, old, new)?,
-        )),
-        Node::ImplicitIntersection(a) => {
-            Ok(Node::ImplicitIntersection(child(alloc, a, reach, old, new)?))
-        }
+        Node::Spill(a) => match child(alloc, a, reach, old, new) {
+            Ok(a) => Ok(Node::Spill(a)),
+            Err(error) => Err(error),
+        },
+        Node::Lambda(parameters, a) => match parameters.clone() {
+            Ok(parameters) => match child(alloc, a, reach, old, new) {
+                Ok(a) => Ok(Node::Lambda(parameters, a)),
+                Err(error) => Err(error),
+            },
+            Err(error) => Err(error),
+        },
+        Node::LambdaCall(a, all) => match child(alloc, a, reach, old, new) {
+            Ok(a) => match children(alloc, all, reach, old, new) {
+                Ok(all) => Ok(Node::LambdaCall(a, all)),
+                Err(error) => Err(error),
+            },
+            Err(error) => Err(error),
+        },
+        Node::ImplicitIntersection(a) => match child(alloc, a, reach, old, new) {
+            Ok(a) => Ok(Node::ImplicitIntersection(a)),
+            Err(error) => Err(error),
+        },
     }
 }
 

@@ -29,7 +29,11 @@ pub(crate) fn read_place(text: &str) -> Result<Position, EditError>
 }
 
 /// A cell of a sheet.
-pub(crate) fn cell(alloc: Global, place: Position, sheet: &str) -> Result<CellReferenceRC, EditError>
+pub(crate) fn cell(
+    alloc: Global,
+    place: Position,
+    sheet: &str,
+) -> Result<CellReferenceRC, EditError>
     requires { IsPlace place }
     ensures { IfOk result (λ context. IsPlace (context_place context)) }
 {

@@ -1,4 +1,5 @@
 use crate::at::At;
+use crate::forms::{self, printed};
 use crate::row::Row;
 use crate::words::{copied, yes_or_no};
 use base_shared::Shared;
@@ -6,7 +7,6 @@ use base_values::EditError;
 use cell_content::{Content, fits_at};
 use formula_tree::Node;
 use formula_wire::{node_at, push_node};
-use hex::FromHex;
 use std::alloc::{AllocError, Global};
 
 /// The bytes that hexadecimal digits write, and none where they write none.
@@ -59,6 +59,21 @@ pub(crate) fn fits(alloc: Global, at: &At, row: &Row) -> Result<String, EditErro
             let content = Content::Formula(Shared::new(alloc, tree)?);
             yes_or_no(alloc, fits_at(at.place, &content))
         }
+        Err(error) => copied(alloc, error.name()),
+    }
+}
+
+/// The bytes of the tree that a text is read as.
+pub(crate) fn spelled(alloc: Global, at: &At, row: &Row) -> Result<String, EditError> {
+    let tree = forms::tree(alloc, at, row.argument(0))?;
+    Ok(written(alloc, &tree, &[])?)
+}
+
+/// The tree that bytes spell, in the form that is asked for.
+pub(crate) fn printed_tree(alloc: Global, at: &At, row: &Row) -> Result<String, EditError> {
+    let bytes = bytes_of(alloc, row.argument(1));
+    match node_at(alloc, bytes.as_slice()) {
+        Ok((tree, _)) => printed(alloc, at, row.argument(0), &tree),
         Err(error) => copied(alloc, error.name()),
     }
 }

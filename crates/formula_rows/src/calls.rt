@@ -10,7 +10,10 @@ pub(crate) fn answer(alloc: Global, at: &At, row: &Row) -> Result<String, EditEr
     match row.call() {
         "english" | "localized" | "rc" | "excel" | "excel-array" => forms::form(alloc, at, row),
         "formula" => forms::is_formula(alloc, at, row),
+        "nested" => forms::nested(alloc, at, row),
         "input" => contents::input(alloc, at, row),
+        "spelled" => bytes::spelled(alloc, at, row),
+        "printed" => bytes::printed_tree(alloc, at, row),
         "tree" => bytes::tree(alloc, row),
         "fronts" => bytes::fronts(alloc, row),
         "fits" => bytes::fits(alloc, at, row),

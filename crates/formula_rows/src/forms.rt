@@ -1,6 +1,6 @@
 use crate::at::At;
 use crate::row::Row;
-use crate::words::{copied, yes_or_no};
+use crate::words::{copied, number, yes_or_no};
 use base_values::EditError;
 use formula_print::{
     to_english_string, to_excel_array_formula_string, to_excel_string, to_localized_string,
@@ -8,7 +8,7 @@ use formula_print::{
 };
 use formula_read::read_formula;
 use formula_tree::{Node, is_parse_error};
-use std::alloc::Global;
+use std::alloc::{AllocError, Global};
 
 /// The tree that a text is read as there.
 pub(crate) fn tree(alloc: Global, at: &At, text: &str) -> Result<Node, EditError> {
@@ -17,7 +17,12 @@ pub(crate) fn tree(alloc: Global, at: &At, text: &str) -> Result<Node, EditError
 }
 
 /// A tree in the form that is asked for.
-fn printed(alloc: Global, at: &At, form: &str, tree: &Node) -> Result<String, EditError> {
+pub(crate) fn printed(
+    alloc: Global,
+    at: &At,
+    form: &str,
+    tree: &Node,
+) -> Result<String, EditError> {
     let context = at.context(alloc)?;
     match form {
         "localized" => to_localized_string(alloc, tree, &context, at.locale, at.language),
@@ -41,4 +46,22 @@ pub(crate) fn form(alloc: Global, at: &At, row: &Row) -> Result<String, EditErro
 pub(crate) fn is_formula(alloc: Global, at: &At, row: &Row) -> Result<String, EditError> {
     let tree = tree(alloc, at, row.argument(0))?;
     yes_or_no(alloc, !is_parse_error(&tree))
+}
+
+/// Whether a 1 behind so many minus signs, in so many parentheses, is a formula.
+pub(crate) fn nested(alloc: Global, at: &At, row: &Row) -> Result<String, EditError> {
+    let mut text = String::new(alloc);
+    push_times(&mut text, '-', row.argument(0))?;
+    push_times(&mut text, '(', row.argument(1))?;
+    text.push('1')?;
+    push_times(&mut text, ')', row.argument(1))?;
+    let tree = tree(alloc, at, text.as_str())?;
+    yes_or_no(alloc, !is_parse_error(&tree))
+}
+
+fn push_times(text: &mut String, sign: char, count: &str) -> Result<(), AllocError> {
+    for _ in 0..number(count) {
+        text.push(sign)?;
+    }
+    Ok(())
 }

@@ -81,7 +81,12 @@ fn displacement_of_cells<'a>(
 }
 
 /// A tree that is displaced, and then printed.
-fn displaced_node(alloc: Global, at: &At, tree: &Node, by: &DisplaceData<'_>) -> Result<String, EditError> {
+fn displaced_node(
+    alloc: Global,
+    at: &At,
+    tree: &Node,
+    by: &DisplaceData<'_>,
+) -> Result<String, EditError> {
     let context = at.context(alloc)?;
     let moved = displace_node(alloc, tree, &context, by)?;
     to_localized_string(alloc, &moved, &context, at.locale, at.language)

@@ -47,7 +47,10 @@ fn set(alloc: Global, at: &mut At, row: &Row, report: &mut Report) -> Result<(),
             *at = next;
             Ok(())
         }
-        Err(error) => Ok(report.add_wrong(error.name(), "a cell, a locale, a language and a sheet")?),
+        Err(error) => Ok(report.add_wrong(
+            error.name(),
+            "a cell, a locale, a language and a sheet",
+        )?),
     }
 }
 

@@ -60,7 +60,11 @@ pub(crate) fn language(alloc: Global, row: &Row) -> Result<String, EditError> {
 }
 
 fn booleans(alloc: Global, language: Language) -> Result<String, AllocError> {
-    let (name, yes, no) = (language.name(), language.boolean(true), language.boolean(false));
+    let (name, yes, no) = (
+        language.name(),
+        language.boolean(true),
+        language.boolean(false),
+    );
     format!(in alloc; "{name} {yes} {no}")
 }
 
@@ -98,7 +102,7 @@ pub(crate) fn function(alloc: Global, at: &At, row: &Row) -> Result<String, Edit
     Ok(format!(in alloc; "{english} {german} {french} {spanish}")?)
 }
 
-fn joined(alloc: Global, texts: &[&str]) -> Result<String, AllocError> {
+fn joined(alloc: Global, texts: &[&str]) -> Result<String, EditError> {
     let mut text = String::new(alloc);
     for part in texts {
         if !text.is_empty() {
@@ -111,14 +115,13 @@ fn joined(alloc: Global, texts: &[&str]) -> Result<String, AllocError> {
 
 /// A list of names of the locale's calendar.
 pub(crate) fn names(alloc: Global, at: &At, row: &Row) -> Result<String, EditError> {
-    let names = match row.argument(0) {
-        "days" => at.locale.days(),
-        "short-days" => at.locale.short_days(),
-        "months" => at.locale.months(),
-        "short-months" => at.locale.short_months(),
-        _ => &[],
-    };
-    Ok(joined(alloc, names)?)
+    match row.argument(0) {
+        "days" => joined(alloc, at.locale.days()),
+        "short-days" => joined(alloc, at.locale.short_days()),
+        "months" => joined(alloc, at.locale.months()),
+        "short-months" => joined(alloc, at.locale.short_months()),
+        _ => copied(alloc, "no such list"),
+    }
 }
 
 /// A number in the locale's signs.

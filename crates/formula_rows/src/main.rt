@@ -2,7 +2,7 @@
 //!
 //! Standard input has a row on each line: the name of a call, what it is given, and what it must
 //! answer, parted by tabs. Each wrong row is written, and last how many rows there were and how many
-//! of them are wrong. docs/ROWS.md has the calls.
+//! of them are wrong. docs/CONTRIBUTING.md has the calls.
 #![tactic(auto)]
 
 mod at;

@@ -1,8 +1,6 @@
 mod formattings;
-mod names;
 mod naming;
 mod navigation;
-mod progress;
 mod ranges;
 mod rule_trees;
 mod rules;

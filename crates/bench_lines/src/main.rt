@@ -49,7 +49,7 @@ fn put_formula(
 ) -> Result<(), EditError> {
     let tree = formula(alloc)?;
     if has_canonical_numbers(&tree) {
-        sheet.set_cell_with_formula(row, 3, tree, style)?;
+        sheet.set_cell_with_formula(row, 3, tree, style.get())?;
     }
     Ok(())
 }

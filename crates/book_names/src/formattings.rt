@@ -6,7 +6,7 @@ ghost use Rattle.base_values.specs.declared.EditError.TheVariants.{NoMemory};
 ghost use Rattle.base_maps.specs.Carried.{settled};
 ghost use Rattle.base_maps.specs.laws.Gathering.{with_made};
 ghost use Rattle.base_maps.specs.ByIndex.{kept_at, restored_at};
-ghost use Rattle.rule_lines.specs.Canonical.{AreCanonicalKept};
+ghost use Rattle.line_map.specs.Canonical.{AreCanonicalKept};
 ghost use Rattle.book_names.specs.Renaming.{AreCanonicalTrees, formatting_renamed, formattings_renamed, formatting_kept, own_formattings_kept};
 ghost use Rattle.book_names.specs.Renaming.{formattings_back, formattings_under};
 

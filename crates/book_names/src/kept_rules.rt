@@ -2,7 +2,7 @@
 
 ghost use Rattle.std.specs.Prelude.{◌≡◌, IfOk, IsOkUnless};
 ghost use Rattle.base_values.specs.declared.EditError.TheVariants.{NoMemory};
-ghost use Rattle.rule_lines.specs.Canonical.{AreCanonicalKept};
+ghost use Rattle.line_map.specs.Canonical.{AreCanonicalKept};
 ghost use Rattle.book_names.specs.Renaming.{AreCanonicalFormattings, own_formattings_kept, formattings_kept};
 
 use crate::formattings::{BothWays, kept_of_rules};

@@ -1,3 +1,10 @@
+pub mod BothWays
+pub mod LaterNames
+pub mod LaterRules
+pub mod ListEdits
+pub mod ListTests
+pub mod SheetDiffLaws
+pub mod Turned
 pub mod KeptSheetEquals
 pub mod Placed
 pub mod SheetRules

@@ -36,9 +36,9 @@ use Rattle.line_sizes.specs.declared.LineChange.TheVariants.{Hidden}
 use Rattle.line_sizes.specs.LineChanges.{lines_from}
 use Rattle.sheet_history.specs.declared.LineAxis.{LineAxis}
 use Rattle.sheet_history.specs.LineDiffs.{along_of}
-use Rattle.entry_records.specs.LineRecords.{change_fits, lines_set, size_change}
-use Rattle.entry_records.specs.laws.AttrRules.{hidden_fits, size_fits}
-use Rattle.entry_records.specs.laws.LineRecordLaws.{attrs_exact, attrs_well_formed, lines_inside}
+use Rattle.edit_plans.specs.LineRecords.{change_fits, lines_set, size_change}
+use Rattle.edit_plans.specs.laws.AttrRules.{hidden_fits, size_fits}
+use Rattle.edit_plans.specs.laws.LineRecordLaws.{attrs_exact, attrs_well_formed, lines_inside}
 use Rattle.edit_plans.specs.LineEdits.{attrs_in, attrs_set}
 use Rattle.edit_plans.specs.SheetEdits.{field_put, field_set}
 use Rattle.edit_plans.specs.laws.FieldPlans.{field_exact, field_may, field_taken, field_well_formed}
@@ -64,9 +64,9 @@ use Rattle.range_styles.specs.declared.StyleRange.{StyleRange}
 use Rattle.range_styles.specs.Clearing.{clear_area, clear_plan}
 use Rattle.range_styles.specs.Styled.{Accepts, StyleAt, all_accept, planned_styles, style_plan}
 use Rattle.range_styles.specs.Tiles.{tiles}
-use Rattle.entry_records.specs.SheetPlans.{with_plan}
-use Rattle.entry_records.specs.laws.AtIndex.{keeps}
-use Rattle.entry_records.specs.laws.PlanRules.{PlanKeeps}
+use Rattle.edit_plans.specs.SheetPlans.{with_plan}
+use Rattle.edit_plans.specs.laws.AtIndex.{keeps}
+use Rattle.edit_plans.specs.laws.PlanRules.{PlanKeeps}
 use Rattle.edit_plans.specs.RangeEdits.{cleared_in, formats_cleared, formats_in, inside_area, is_tile, may_update, pasted_in, planned_in, range_cleared, styles_in, styles_pasted, styles_set, update_refusal, updates, whole_range}
 use Rattle.edit_plans.specs.laws.RangeRules.{IsSized, cleared_keeps, styled_keeps}
 use Rattle.edit_plans.proofs.Ranges.{carried_has_record, clear_is, default_sized, inside_is, tiles_keep, updates_sized}

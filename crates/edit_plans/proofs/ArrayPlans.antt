@@ -25,7 +25,7 @@ use Rattle.edit_plans.specs.laws.EditRecords.{array_diffs}
 use Rattle.edit_plans.specs.Plans.{IsPlan, Plans}
 use Rattle.edit_plans.specs.laws.ArrayRecords.{array_changes, array_record, array_made}
 use Rattle.edit_plans.specs.laws.ArrayRules.{MayFill, may_fill, array_rules}
-use Rattle.entry_records.specs.laws.AtIndex.{there}
+use Rattle.edit_plans.specs.laws.AtIndex.{there}
 use Rattle.edit_plans.specs.laws.Fonts.{place_inside}
 use Rattle.edit_plans.specs.laws.PlanLaws.{plan_refused, plan_made, no_sheet, sheet_refuses, sheet_takes, sheet_sure}
 use Rattle.edit_plans.specs.laws.SheetRecords.{sheet_record, sheet_keeps}

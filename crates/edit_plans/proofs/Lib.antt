@@ -1,3 +1,4 @@
+pub mod PlanLoops
 mod LineCounts
 mod Counting
 mod Widened

@@ -26,7 +26,7 @@ use Rattle.sheet_history.specs.Records.{IsRecord}
 use Rattle.sheet_history.specs.laws.RuleLaws.{KeepsSheetRules}
 use Rattle.edit_plans.specs.laws.EditRecords.{blank_diffs, merge_diffs}
 use Rattle.edit_plans.specs.Merging.{with_merge, merges_without, without_merge}
-use Rattle.entry_records.specs.laws.AtIndex.{there}
+use Rattle.edit_plans.specs.laws.AtIndex.{there}
 use Rattle.edit_plans.specs.laws.BlankedLaws.{blanked_sheet, content_left, large_left, rules_stay}
 use Rattle.edit_plans.specs.laws.BlankRecord.{blank_changes, blank_record, made_changes, blank_below}
 use Rattle.edit_plans.specs.laws.MergeRecords.{merges_differ, made_more, no_changes, merges_change, merges_record}

@@ -22,9 +22,9 @@ use Rattle.range_styles.specs.laws.TileLaws.{tiles_sized}
 use Rattle.sheet_history.specs.declared.Diff.{Diff}
 use Rattle.sheet_history.specs.Diffs.{IsCanonicalList}
 use Rattle.sheet_history.specs.Records.{IsRecord}
-use Rattle.entry_records.specs.SheetPlans.{plan_diffs, with_plan}
-use Rattle.entry_records.specs.laws.AtIndex.{keeps}
-use Rattle.entry_records.specs.laws.PlanRules.{PlanKeeps}
+use Rattle.edit_plans.specs.SheetPlans.{plan_diffs, with_plan}
+use Rattle.edit_plans.specs.laws.AtIndex.{keeps}
+use Rattle.edit_plans.specs.laws.PlanRules.{PlanKeeps}
 use Rattle.edit_plans.specs.Plans.{HasRecord, Plans}
 use Rattle.edit_plans.specs.RangeEdits.{cleared_in, formats_cleared, formats_in, inside_area, is_tile, pasted_in, planned_in, range_cleared, styles_in, styles_pasted, styles_set, updates}
 use Rattle.edit_plans.specs.laws.PlanLaws.{no_sheet, plan_refused, sheet_refuses, sheet_sure, sheet_takes}

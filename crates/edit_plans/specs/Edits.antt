@@ -26,7 +26,7 @@ use Rattle.sheet_history.specs.Settings.{with_setting}
 use Rattle.sheet_history.specs.LineDiffs.{along_of}
 use Rattle.sheet_history.specs.Records.{line_record, record_between}
 use Rattle.line_sizes.specs.declared.LineChange.TheVariants.{Hidden}
-use Rattle.entry_records.specs.LineRecords.{size_change}
+use Rattle.edit_plans.specs.LineRecords.{size_change}
 use Rattle.edit_plans.specs.Inputs.{IsInput, input_put}
 use Rattle.edit_plans.specs.LineEdits.{attrs_set}
 use Rattle.edit_plans.specs.Fills.{fill_made}

@@ -15,7 +15,7 @@ use Rattle.sheet_fill.specs.Plans.{planned_in}
 use Rattle.range_styles.specs.declared.SheetPlan.{SheetPlan}
 use Rattle.sheet_history.specs.declared.LineAxis.{LineAxis}
 use Rattle.sheet_history.specs.LineDiffs.{along_of}
-use Rattle.entry_records.specs.SheetPlans.{with_plan}
+use Rattle.edit_plans.specs.SheetPlans.{with_plan}
 
 -- what a fill puts at places, as a plan of a sheet: no line changes
 abbrev pub places_plan : FinMap position_cmp (Option Cell) → FinMap position_cmp (Option Link) → SheetPlan

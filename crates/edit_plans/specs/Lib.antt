@@ -1,3 +1,5 @@
+pub mod LineRecords
+pub mod SheetPlans
 pub mod Plans
 pub mod Inputs
 pub mod LineEdits
@@ -11,8 +13,8 @@ pub mod SheetEdits
 pub mod Fills
 pub mod Edits
 pub mod ViewSteps
-pub mod laws
 pub mod NamedEdits
 pub mod RuleEdits
 pub mod RuleRecords
 pub mod SettingEdits
+pub mod laws

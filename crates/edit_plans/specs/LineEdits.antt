@@ -8,7 +8,7 @@ use Rattle.sheet_grid.specs.Sheet.{Sheet}
 use Rattle.sheet_grid.specs.Book.{Book, sheet_edit}
 use Rattle.sheet_history.specs.declared.LineAxis.{LineAxis}
 use Rattle.sheet_history.specs.LineDiffs.{along_of}
-use Rattle.entry_records.specs.LineRecords.{lines_set}
+use Rattle.edit_plans.specs.LineRecords.{lines_set}
 
 -- the sheet where the lines from a first to a last are changed, or the first refusal: they are not lines of the axis, the last one is before
 -- the first, or there is no such change

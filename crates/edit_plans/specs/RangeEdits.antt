@@ -21,7 +21,7 @@ use Rattle.range_styles.specs.Clearing.{clear_area, clear_plan}
 use Rattle.range_styles.specs.StyleRanges.{kind_of}
 use Rattle.range_styles.specs.Tiles.{tiles}
 use Rattle.range_styles.specs.Styled.{Accepts, StyleAt, planned_styles}
-use Rattle.entry_records.specs.SheetPlans.{with_plan}
+use Rattle.edit_plans.specs.SheetPlans.{with_plan}
 
 -- a rectangle of places of the sheet, or the refusal of one that is empty or reaches outside
 abbrev pub inside_area : MergedCell → Result MergedCell EditError

@@ -14,7 +14,7 @@ use Rattle.sheet_views.specs.Views.{range_from}
 use Rattle.sheet_history.specs.declared.LineAxis.{LineAxis}
 use Rattle.sheet_history.specs.declared.LineAxis.TheVariants.{Rows, Columns}
 use Rattle.sheet_history.specs.LineDiffs.{along_of}
-use Rattle.entry_records.specs.LineRecords.{lines_of}
+use Rattle.edit_plans.specs.LineRecords.{lines_of}
 use Rattle.sheet_history.specs.declared.SheetField.TheVariants.{State}
 use Rattle.edit_plans.specs.Edits.{Edit}
 use Rattle.edit_plans.specs.Edits.Edit.{AddSheet, CopySheet, DeleteSheet, MoveSheet, SetField, SetHidden, PasteStyles}

@@ -1,3 +1,9 @@
+pub mod Appended
+pub mod AtIndex
+pub mod AttrRules
+pub mod LineRecordLaws
+pub mod PlanRecords
+pub mod PlanRules
 pub mod EditRecords
 pub mod ArrayPut
 pub mod ArrayRecords

@@ -10,11 +10,11 @@ ghost use Rattle.sheet_rules.specs.Occupied.{covers};
 ghost use Rattle.edit_plans.specs.Blanked.{blank_cell, loses};
 ghost use Rattle.edit_plans.specs.laws.EditRecords.{blank_diff, blank_diffs};
 
+use crate::push_diff;
 use base_axis::MergedCell;
 use base_shared::Shared;
 use base_values::{EditError, Items, Position, copy_of};
 use cell_content::Content;
-use entry_records::push_diff;
 use sheet_grid::{Cell, Worksheet};
 use sheet_history::Diff;
 use std::alloc::Global;

@@ -4,9 +4,9 @@ ghost use Rattle.sheet_rules.specs.WellFormed.{IsWellFormed};
 ghost use Rattle.edit_plans.specs.Plans.{Plans};
 ghost use Rattle.edit_plans.specs.RangeEdits.{range_cleared};
 
+use crate::plan_list;
 use base_axis::MergedCell;
 use base_values::EditError;
-use entry_records::plan_list;
 use range_styles::{Clearing, clear_area, clear_plan};
 use sheet_grid::Workbook;
 use sheet_history::DiffList;

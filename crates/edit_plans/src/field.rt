@@ -11,9 +11,9 @@ ghost use Rattle.edit_plans.specs.Plans.{Plans};
 ghost use Rattle.edit_plans.specs.SheetEdits.{field_set};
 ghost use Rattle.edit_plans.specs.laws.EditRecords.{field_change};
 
+use crate::list_of_two;
 use base_styles::Color;
 use base_values::EditError;
-use entry_records::list_of_two;
 use sheet_grid::{SheetState, Workbook, Worksheet};
 use sheet_history::{Diff, DiffList, FieldChange, SheetField};
 use std::alloc::Global;

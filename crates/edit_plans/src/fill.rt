@@ -13,11 +13,11 @@ ghost use Rattle.edit_plans.specs.Fills.{fill_made, places_plan};
 ghost use Rattle.edit_plans.specs.laws.EditRecords.{fill_record, merges_record};
 ghost use Rattle.edit_plans.specs.Plans.{Plans};
 
+use crate::{list_of, merges_diff, plan_list, push_diff};
 use base_axis::{Area, AxisMap, ColumnAxis, MergeList, MergedCell, RowAxis};
 use base_shared::Shared;
 use base_tables::Language;
 use base_values::{EditError, Items, PlaceMap, copy_of};
-use entry_records::{list_of, merges_diff, plan_list, push_diff};
 use range_styles::SheetPlan;
 use sheet_fill::{FillPlan, plan_fill};
 use sheet_grid::{Cell, Link, Workbook, Worksheet};

@@ -17,10 +17,10 @@ ghost use Rattle.edit_plans.specs.laws.EditRecords.{cell_record, height_record, 
 
 use crate::blanked::is_empty;
 use crate::link::link_change;
+use crate::{cell_diff, list_of_three, raised_diff};
 use base_shared::Shared;
 use base_styles::Style;
 use base_values::{EditError, Position, copy_of, place_of};
-use entry_records::{cell_diff, list_of_three, raised_diff};
 use line_sizes::needed_height;
 use sheet_grid::{Cell, Content, DefaultStyle, Workbook, Worksheet};
 use sheet_history::{Diff, DiffList};

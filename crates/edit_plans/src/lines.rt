@@ -4,12 +4,12 @@ ghost use Rattle.std.specs.Prelude.{◌≡◌, ◌≢◌, IfOk, IsTrue, Ok, Err}
 ghost use Rattle.base_values.specs.declared.EditError.TheVariants.{NoMemory};
 ghost use Rattle.line_sizes.specs.declared.LineChange.TheVariants.{Hidden};
 ghost use Rattle.sheet_rules.specs.WellFormed.{IsWellFormed};
-ghost use Rattle.entry_records.specs.LineRecords.{change_fits, size_change};
+ghost use Rattle.edit_plans.specs.LineRecords.{change_fits, size_change};
 ghost use Rattle.edit_plans.specs.LineEdits.{attrs_set};
 ghost use Rattle.edit_plans.specs.Plans.{Plans};
 
+use crate::{axis_end, line_list, size_change};
 use base_values::EditError;
-use entry_records::{axis_end, line_list, size_change};
 use line_sizes::{LineChange, line_count};
 use sheet_grid::Workbook;
 use sheet_history::{DiffList, LineAxis};

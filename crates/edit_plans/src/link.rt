@@ -10,8 +10,8 @@ ghost use Rattle.edit_plans.specs.Plans.{Plans};
 ghost use Rattle.edit_plans.specs.Links.{link_set};
 ghost use Rattle.edit_plans.specs.laws.EditRecords.{link_change};
 
+use crate::{link_diff, list_of_two};
 use base_values::{EditError, Position, place_of};
-use entry_records::{link_diff, list_of_two};
 use sheet_grid::{Link, Workbook, Worksheet};
 use sheet_history::{Diff, DiffList};
 use std::alloc::Global;

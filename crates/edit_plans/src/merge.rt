@@ -15,9 +15,9 @@ ghost use Rattle.edit_plans.specs.laws.EditRecords.{merge_diffs};
 ghost use Rattle.edit_plans.specs.Plans.{Plans};
 
 use crate::blanked::push_blank_diffs;
+use crate::{list_of, merges_diff, push_diff};
 use base_axis::{MergeList, MergedCell};
 use base_values::{EditError, Items, Position, copy_of};
-use entry_records::{list_of, merges_diff, push_diff};
 use sheet_grid::{Workbook, Worksheet};
 use sheet_history::DiffList;
 use std::alloc::Global;

@@ -13,12 +13,12 @@ ghost use Rattle.range_styles.specs.Tiles.{tiles};
 ghost use Rattle.edit_plans.specs.Plans.{Plans};
 ghost use Rattle.edit_plans.specs.RangeEdits.{greater, is_tile, pasted_area, pasted_by, pasted_in, styles_pasted, tile_width, tiled_range};
 
+use crate::plan_list;
 use crate::styles::inside_area;
 use base_axis::MergedCell;
 use base_shared::Shared;
 use base_styles::Style;
 use base_values::{EditError, Items, copy_of};
-use entry_records::plan_list;
 use range_styles::{AreaKind, SheetPlan, StyleRange, StyleTiles, style_plan};
 use sheet_grid::{DefaultStyle, Workbook, Worksheet};
 use sheet_history::DiffList;

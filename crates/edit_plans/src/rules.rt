@@ -14,10 +14,10 @@ ghost use Rattle.edit_plans.specs.Edits.Edit.{EditRules};
 ghost use Rattle.edit_plans.specs.Plans.{PlansSheets};
 ghost use Rattle.edit_plans.specs.RuleEdits.{diffs_of};
 
+use crate::list_of_two;
 use base_axis::MergedCell;
 use base_shared::Shared;
 use base_values::EditError;
-use entry_records::list_of_two;
 use format_rules::CfRule;
 use rule_edits::{RuleChange, add_rule, remove_rule, swap_rules, update_rule};
 use sheet_grid::{Workbook, Worksheet};

@@ -11,8 +11,8 @@ ghost use Rattle.edit_plans.specs.Edits.Edit.{SetSetting};
 ghost use Rattle.edit_plans.specs.Plans.{PlansSheets};
 ghost use Rattle.edit_plans.specs.SettingEdits.{has_setting, setting_record};
 
+use crate::list_of_two;
 use base_values::{EditError, Text};
-use entry_records::list_of_two;
 use sheet_grid::Workbook;
 use sheet_history::{Diff, DiffList, Setting, SettingChange};
 use std::alloc::Global;

@@ -11,11 +11,11 @@ ghost use Rattle.edit_plans.specs.Edits.Edit.{AddSheet, CopySheet, DeleteSheet, 
 ghost use Rattle.edit_plans.specs.Plans.{PlansSheets};
 ghost use Rattle.edit_plans.specs.SheetEdits.{new_diff, copy_diff, deletion_diff, rename_diff};
 
+use crate::list_of_two;
 use base_shared::Shared;
 use base_values::{EditError, Text};
 use book_names::{KeptTrees, may_be_named};
 use book_sheets::KeptSheet;
-use entry_records::list_of_two;
 use sheet_grid::{Workbook, Worksheet};
 use sheet_history::{Diff, DiffList};
 use sheet_naming::{copy_name, new_name, next_id};

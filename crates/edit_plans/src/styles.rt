@@ -7,11 +7,11 @@ ghost use Rattle.sheet_rules.specs.WellFormed.{IsWellFormed};
 ghost use Rattle.edit_plans.specs.Plans.{Plans};
 ghost use Rattle.edit_plans.specs.RangeEdits.{formats_cleared, inside_area, styles_set};
 
+use crate::plan_list;
 use base_axis::MergedCell;
 use base_shared::Shared;
 use base_styles::Style;
 use base_values::{EditError, Position, copy_of};
-use entry_records::plan_list;
 use range_styles::{StyleChange, StyleRange, kind_of, style_plan};
 use sheet_grid::{DefaultStyle, Workbook};
 use sheet_history::DiffList;

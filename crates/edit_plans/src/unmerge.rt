@@ -11,9 +11,9 @@ ghost use Rattle.sheet_rules.specs.WellFormed.{IsWellFormed};
 ghost use Rattle.edit_plans.specs.Merging.{merge_undone, merges_without, unmerged_at, unmerged_in, without_merge};
 ghost use Rattle.edit_plans.specs.Plans.{Plans};
 
+use crate::{list_of_two, merges_diff};
 use base_axis::{MergeList, MergedCell};
 use base_values::{EditError, Items, Position, place_of};
-use entry_records::{list_of_two, merges_diff};
 use sheet_grid::{Workbook, Worksheet};
 use sheet_history::DiffList;
 use std::alloc::Global;

@@ -4,7 +4,7 @@
 ghost use Rattle.std.specs.Prelude.{◌≡◌, ◌≤ℤ◌, ◌<◌, length, pos, Ok};
 ghost use Rattle.line_sizes.specs.ShownLines.{next_shown};
 ghost use Rattle.sheet_history.specs.LineDiffs.{along_of};
-ghost use Rattle.entry_records.specs.LineRecords.{lines_of};
+ghost use Rattle.edit_plans.specs.LineRecords.{lines_of};
 ghost use Rattle.edit_plans.specs.Edits.Edit.{AddSheet, CopySheet, DeleteSheet, MoveSheet, SetField};
 ghost use Rattle.edit_plans.specs.ViewSteps.{line_shown, selected_by, whole_line};
 

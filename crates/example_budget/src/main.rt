@@ -3,9 +3,8 @@
 #![tactic(auto)]
 
 use anyhow::Result;
-use base_values::EditError;
 use std::alloc::Global;
-use user_model::{ClearAll, UserModel};
+use user_model::{ClearAll, EditError, UserModel};
 
 type Budget = UserModel<ClearAll>;
 

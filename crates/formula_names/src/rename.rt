@@ -47,6 +47,14 @@ fn renamed_text(
     }
 }
 
+/// The name that each renamed part shares.
+fn shared_name(alloc: Global, name: &str) -> Result<Shared<Text>, AllocError>
+    ensures { IfOk result (λ shared. shared ≡ name.now) }
+{
+    let text = Text::new(String::from_str(alloc, name)?);
+    Shared::new(alloc, text)
+}
+
 /// The tree of a formula after the sheet `old` was renamed to `new`: each reference and range whose
 /// sheet name is equal to the old one by simple case folding names the new one, and no other node
 /// changes. Names that no sheet has are names like any other. Only `NoMemory` is refused.
@@ -54,12 +62,13 @@ pub fn rename_sheet_in_node(
     alloc: Global,
     node: &Node,
     old: &str,
-    new: &Shared<Text>,
+    new: &str,
 ) -> Result<Node, EditError>
     ensures tree { IfOk result (λ tree. tree ≡ tree_renamed Sheets old.now new.now node.now) }
     ensures only { IsOkUnless result NoMemory }
 {
-    Ok(renamed(alloc, node, Reach::Sheets, old, new)?)
+    let new = shared_name(alloc, new)?;
+    Ok(renamed(alloc, node, Reach::Sheets, old, &new)?)
 }
 
 /// The tree of a formula after the defined name `name` was renamed to `new`: each name, also that of a
@@ -69,12 +78,13 @@ pub fn rename_defined_name_in_node(
     alloc: Global,
     node: &Node,
     name: &str,
-    new: &Shared<Text>,
+    new: &str,
 ) -> Result<Node, EditError>
     ensures tree { IfOk result (λ tree. tree ≡ tree_renamed Names name.now new.now node.now) }
     ensures only { IsOkUnless result NoMemory }
 {
-    Ok(renamed(alloc, node, Reach::Names, name, new)?)
+    let new = shared_name(alloc, new)?;
+    Ok(renamed(alloc, node, Reach::Names, name, &new)?)
 }
 
 /// The tree of a formula after a renaming that reaches sheets, names or nothing: each of them that is

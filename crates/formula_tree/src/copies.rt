@@ -12,27 +12,111 @@ pub fn copy_node(node: &Node) -> Result<Node, AllocError>
     match node {
         Node::Boolean(value) => Ok(Node::Boolean(*value)),
         Node::Number(value) => Ok(Node::Number(*value)),
-        Node::Text(text) => Ok(Node::Text(text.clone()?)),
-        Node::Reference(sheet, corner) => Ok(Node::Reference(sheet.clone()?, *corner)),
-        Node::Range(sheet, a, b) => Ok(Node::Range(sheet.clone()?, *a, *b)),
-        Node::Colon(a, b) => Ok(Node::Colon(a.clone()?, b.clone()?)),
-        Node::Concatenate(a, b) => Ok(Node::Concatenate(a.clone()?, b.clone()?)),
-        Node::Compare(kind, a, b) => Ok(Node::Compare(*kind, a.clone()?, b.clone()?)),
-        Node::Sum(kind, a, b) => Ok(Node::Sum(*kind, a.clone()?, b.clone()?)),
-        Node::Product(kind, a, b) => Ok(Node::Product(*kind, a.clone()?, b.clone()?)),
-        Node::Power(a, b) => Ok(Node::Power(a.clone()?, b.clone()?)),
-        Node::Unary(kind, a) => Ok(Node::Unary(*kind, a.clone()?)),
-        Node::Call(function, all) => Ok(Node::Call(*function, copy_nodes(all)?)),
-        Node::NamedCall(name, all) => Ok(Node::NamedCall(name.clone()?, copy_nodes(all)?)),
-        Node::Array(lines) => Ok(Node::Array(lines.clone()?)),
-        Node::Name(name) => Ok(Node::Name(name.clone()?)),
+        Node::Text(text) => match text.clone() {
+            Ok(text) => Ok(Node::Text(text)),
+            Err(error) => Err(error),
+        },
+        Node::Reference(sheet, corner) => match sheet.clone() {
+            Ok(sheet) => Ok(Node::Reference(sheet, *corner)),
+            Err(error) => Err(error),
+        },
+        Node::Range(sheet, a, b) => match sheet.clone() {
+            Ok(sheet) => Ok(Node::Range(sheet, *a, *b)),
+            Err(error) => Err(error),
+        },
+        Node::Colon(a, b) => match a.clone() {
+            Ok(a) => match b.clone() {
+                Ok(b) => Ok(Node::Colon(a, b)),
+                Err(error) => Err(error),
+            },
+            Err(error) => Err(error),
+        },
+        Node::Concatenate(a, b) => match a.clone() {
+            Ok(a) => match b.clone() {
+                Ok(b) => Ok(Node::Concatenate(a, b)),
+                Err(error) => Err(error),
+            },
+            Err(error) => Err(error),
+        },
+        Node::Compare(kind, a, b) => match a.clone() {
+            Ok(a) => match b.clone() {
+                Ok(b) => Ok(Node::Compare(*kind, a, b)),
+                Err(error) => Err(error),
+            },
+            Err(error) => Err(error),
+        },
+        Node::Sum(kind, a, b) => match a.clone() {
+            Ok(a) => match b.clone() {
+                Ok(b) => Ok(Node::Sum(*kind, a, b)),
+                Err(error) => Err(error),
+            },
+            Err(error) => Err(error),
+        },
+        Node::Product(kind, a, b) => match a.clone() {
+            Ok(a) => match b.clone() {
+                Ok(b) => Ok(Node::Product(*kind, a, b)),
+                Err(error) => Err(error),
+            },
+            Err(error) => Err(error),
+        },
+        Node::Power(a, b) => match a.clone() {
+            Ok(a) => match b.clone() {
+                Ok(b) => Ok(Node::Power(a, b)),
+                Err(error) => Err(error),
+            },
+            Err(error) => Err(error),
+        },
+        Node::Unary(kind, a) => match a.clone() {
+            Ok(a) => Ok(Node::Unary(*kind, a)),
+            Err(error) => Err(error),
+        },
+        Node::Call(function, all) => match copy_nodes(all) {
+            Ok(all) => Ok(Node::Call(*function, all)),
+            Err(error) => Err(error),
+        },
+        Node::NamedCall(name, all) => match name.clone() {
+            Ok(name) => match copy_nodes(all) {
+                Ok(all) => Ok(Node::NamedCall(name, all)),
+                Err(error) => Err(error),
+            },
+            Err(error) => Err(error),
+        },
+        Node::Array(lines) => match lines.clone() {
+            Ok(lines) => Ok(Node::Array(lines)),
+            Err(error) => Err(error),
+        },
+        Node::Name(name) => match name.clone() {
+            Ok(name) => Ok(Node::Name(name)),
+            Err(error) => Err(error),
+        },
         Node::Error(error) => Ok(Node::Error(*error)),
-        Node::ParseError(text) => Ok(Node::ParseError(text.clone()?)),
+        Node::ParseError(text) => match text.clone() {
+            Ok(text) => Ok(Node::ParseError(text)),
+            Err(error) => Err(error),
+        },
         Node::EmptyArgument => Ok(Node::EmptyArgument),
-        Node::Spill(a) => Ok(Node::Spill(a.clone()?)),
-        Node::Lambda(all, body) => Ok(Node::Lambda(all.clone()?, body.clone()?)),
-        Node::LambdaCall(a, all) => Ok(Node::LambdaCall(a.clone()?, copy_nodes(all)?)),
-        Node::ImplicitIntersection(a) => Ok(Node::ImplicitIntersection(a.clone()?)),
+        Node::Spill(a) => match a.clone() {
+            Ok(a) => Ok(Node::Spill(a)),
+            Err(error) => Err(error),
+        },
+        Node::Lambda(all, body) => match all.clone() {
+            Ok(all) => match body.clone() {
+                Ok(body) => Ok(Node::Lambda(all, body)),
+                Err(error) => Err(error),
+            },
+            Err(error) => Err(error),
+        },
+        Node::LambdaCall(a, all) => match a.clone() {
+            Ok(a) => match copy_nodes(all) {
+                Ok(all) => Ok(Node::LambdaCall(a, all)),
+                Err(error) => Err(error),
+            },
+            Err(error) => Err(error),
+        },
+        Node::ImplicitIntersection(a) => match a.clone() {
+            Ok(a) => Ok(Node::ImplicitIntersection(a)),
+            Err(error) => Err(error),
+        },
     }
 }
 

@@ -53,10 +53,16 @@ fn ordered_range(
     Ok(Node::Range(sheet.clone()?, lower, higher))
 }
 
-fn colon(alloc: Global, left: Node, right: Node) -> Result<Node, AllocError>
-    ensures { IfOk result (λ tree. tree ≡ Node.Colon left right) }
+/// A reference to where its corner went, shared.
+fn shared_reference(
+    alloc: Global,
+    sheet: &Option<Shared<Text>>,
+    corner: Option<Corner>,
+) -> Result<Shared<Node>, AllocError>
+    ensures { IfOk result (λ tree. tree ≡ reference_to sheet.now corner) }
 {
-    Ok(Node::Colon(Shared::new(alloc, left)?, Shared::new(alloc, right)?))
+    let tree = reference_to(sheet, corner)?;
+    Shared::new(alloc, tree)
 }
 
 /// A range between where its corners went.
@@ -73,9 +79,9 @@ fn range_to(
     if let (Some(first), Some(second)) = (first, second) {
         return ordered_range(to, sheet, first, second);
     }
-    let left = reference_to(sheet, first)?;
-    let right = reference_to(sheet, second)?;
-    colon(alloc, left, right)
+    let left = shared_reference(alloc, sheet, first)?;
+    let right = shared_reference(alloc, sheet, second)?;
+    Ok(Node::Colon(left, right))
 }
 
 /// The tree of a formula whose corners move, and that then stands at `to`: each reference and range
@@ -96,62 +102,108 @@ pub fn move_node<M: CornerMap>(
     match node {
         Node::Boolean(value) => Ok(Node::Boolean(*value)),
         Node::Number(value) => Ok(Node::Number(*value)),
-        Node::Text(text) => Ok(Node::Text(text.clone()?)),
+        Node::Text(text) => match text.clone() {
+            Ok(text) => Ok(Node::Text(text)),
+            Err(error) => Err(error),
+        },
         Node::Reference(sheet, corner) => reference_to(sheet, corners.reference(sheet, *corner)),
         Node::Range(sheet, first, second) => {
             let (first, second) = corners.range(sheet, *first, *second);
             range_to(alloc, to, sheet, first, second)
         },
-        Node::Colon(a, b) => Ok(Node::Colon(
-            child(alloc, a, to, corners)?,
-            child(alloc, b, to, corners)?,
-        )),
-        Node::Concatenate(a, b) => Ok(Node::Concatenate(
-            child(alloc, a, to, corners)?,
-            child(alloc, b, to, corners)?,
-        )),
-        Node::Compare(kind, a, b) => Ok(Node::Compare(
-            *kind,
-            child(alloc, a, to, corners)?,
-            child(alloc, b, to, corners)?,
-        )),
-        Node::Sum(kind, a, b) => Ok(Node::Sum(
-            *kind,
-            child(alloc, a, to, corners)?,
-            child(alloc, b, to, corners)?,
-        )),
-        Node::Product(kind, a, b) => Ok(Node::Product(
-            *kind,
-            child(alloc, a, to, corners)?,
-            child(alloc, b, to, corners)?,
-        )),
-        Node::Power(a, b) => Ok(Node::Power(
-            child(alloc, a, to, corners)?,
-            child(alloc, b, to, corners)?,
-        )),
-        Node::Unary(kind, a) => Ok(Node::Unary(*kind, child(alloc, a, to, corners)?)),
-        Node::Call(function, all) => Ok(Node::Call(*function, children(alloc, all, to, corners)?)),
-        Node::NamedCall(name, all) => Ok(Node::NamedCall(
-            name.clone()?,
-            children(alloc, all, to, corners)?,
-        )),
-        Node::Array(lines) => Ok(Node::Array(lines.clone()?)),
-        Node::Name(name) => Ok(Node::Name(name.clone()?)),
+        Node::Colon(a, b) => match child(alloc, a, to, corners) {
+            Ok(a) => match child(alloc, b, to, corners) {
+                Ok(b) => Ok(Node::Colon(a, b)),
+                Err(error) => Err(error),
+            },
+            Err(error) => Err(error),
+        },
+        Node::Concatenate(a, b) => match child(alloc, a, to, corners) {
+            Ok(a) => match child(alloc, b, to, corners) {
+                Ok(b) => Ok(Node::Concatenate(a, b)),
+                Err(error) => Err(error),
+            },
+            Err(error) => Err(error),
+        },
+        Node::Compare(kind, a, b) => match child(alloc, a, to, corners) {
+            Ok(a) => match child(alloc, b, to, corners) {
+                Ok(b) => Ok(Node::Compare(*kind, a, b)),
+                Err(error) => Err(error),
+            },
+            Err(error) => Err(error),
+        },
+        Node::Sum(kind, a, b) => match child(alloc, a, to, corners) {
+            Ok(a) => match child(alloc, b, to, corners) {
+                Ok(b) => Ok(Node::Sum(*kind, a, b)),
+                Err(error) => Err(error),
+            },
+            Err(error) => Err(error),
+        },
+        Node::Product(kind, a, b) => match child(alloc, a, to, corners) {
+            Ok(a) => match child(alloc, b, to, corners) {
+                Ok(b) => Ok(Node::Product(*kind, a, b)),
+                Err(error) => Err(error),
+            },
+            Err(error) => Err(error),
+        },
+        Node::Power(a, b) => match child(alloc, a, to, corners) {
+            Ok(a) => match child(alloc, b, to, corners) {
+                Ok(b) => Ok(Node::Power(a, b)),
+                Err(error) => Err(error),
+            },
+            Err(error) => Err(error),
+        },
+        Node::Unary(kind, a) => match child(alloc, a, to, corners) {
+            Ok(a) => Ok(Node::Unary(*kind, a)),
+            Err(error) => Err(error),
+        },
+        Node::Call(function, all) => match children(alloc, all, to, corners) {
+            Ok(all) => Ok(Node::Call(*function, all)),
+            Err(error) => Err(error),
+        },
+        Node::NamedCall(name, all) => match name.clone() {
+            Ok(name) => match children(alloc, all, to, corners) {
+                Ok(all) => Ok(Node::NamedCall(name, all)),
+                Err(error) => Err(error),
+            },
+            Err(error) => Err(error),
+        },
+        Node::Array(lines) => match lines.clone() {
+            Ok(lines) => Ok(Node::Array(lines)),
+            Err(error) => Err(error),
+        },
+        Node::Name(name) => match name.clone() {
+            Ok(name) => Ok(Node::Name(name)),
+            Err(error) => Err(error),
+        },
         Node::Error(error) => Ok(Node::Error(*error)),
-        Node::ParseError(text) => Ok(Node::ParseError(text.clone()?)),
+        Node::ParseError(text) => match text.clone() {
+            Ok(text) => Ok(Node::ParseError(text)),
+            Err(error) => Err(error),
+        },
         Node::EmptyArgument => Ok(Node::EmptyArgument),
-        Node::Spill(a) => Ok(Node::Spill(child(alloc, a, to, corners)?)),
-        Node::Lambda(parameters, a) => Ok(Node::Lambda(
-            parameters.clone()?,
-            child(alloc, a, to, corners)?,
-        )),
-        Node::LambdaCall(a, all) => Ok(Node::LambdaCall(
-            child(alloc, a, to, corners)?,
-            children(alloc, all, to, corners)?,
-        )),
-        Node::ImplicitIntersection(a) => Ok(Node::ImplicitIntersection(child(
-            alloc, a, to, corners,
-        )?)),
+        Node::Spill(a) => match child(alloc, a, to, corners) {
+            Ok(a) => Ok(Node::Spill(a)),
+            Err(error) => Err(error),
+        },
+        Node::Lambda(parameters, a) => match parameters.clone() {
+            Ok(parameters) => match child(alloc, a, to, corners) {
+                Ok(a) => Ok(Node::Lambda(parameters, a)),
+                Err(error) => Err(error),
+            },
+            Err(error) => Err(error),
+        },
+        Node::LambdaCall(a, all) => match child(alloc, a, to, corners) {
+            Ok(a) => match children(alloc, all, to, corners) {
+                Ok(all) => Ok(Node::LambdaCall(a, all)),
+                Err(error) => Err(error),
+            },
+            Err(error) => Err(error),
+        },
+        Node::ImplicitIntersection(a) => match child(alloc, a, to, corners) {
+            Ok(a) => Ok(Node::ImplicitIntersection(a)),
+            Err(error) => Err(error),
+        },
     }
 }
 

@@ -38,8 +38,7 @@ fn fields_at(alloc: Global, bytes: &[u8]) -> Result<(Worksheet, &[u8]), EditErro
     sheet.set_state(state);
     sheet.set_color(&color);
     sheet.set_show_grid_lines(show_grid_lines);
-    sheet.set_frozen_rows(frozen_rows);
-    sheet.set_frozen_columns(frozen_columns);
+    sheet.put_frozen(frozen_rows, frozen_columns);
     Ok((sheet, rest))
 }
 

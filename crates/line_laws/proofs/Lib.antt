@@ -1,2 +1,1 @@
 mod Shifts
-mod RangeImages

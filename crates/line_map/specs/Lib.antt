@@ -1,3 +1,7 @@
+pub mod Canonical
+pub mod Rules
+pub mod EditedRules
+pub mod Follows
 pub mod Contents
 pub mod Lists
 pub mod Keys

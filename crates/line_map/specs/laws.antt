@@ -1,3 +1,7 @@
+pub mod RuleLaws
+pub mod FollowLaws
+pub mod EditedEquals
+pub mod EditedLaws
 pub mod Equals
 pub mod ContentLaws
 pub mod AloneLaws

@@ -11,7 +11,6 @@ edit_way a e = record {
   along = a;
   moves = edit_moves a.last e;
   sheet = 0;
-  own = [];
   edited = [];
   is_edited = true;
   from = record { row = pos 1; column = pos 1 };

@@ -1,11 +1,10 @@
 -- Which formulas a map on lines does not give back, told by their corners.
-use Rattle.std.specs.Prelude.{◌≡◌, ℕ, Bool, true, false, ◌&&◌, List, Option, Some, None, is_some, is_none}
+use Rattle.std.specs.Prelude.{◌≡◌, ℕ, Bool, true, false, ◌&&◌, List, Option, Some, None, is_none}
 use Rattle.base_values.specs.declared.Position.{Position}
 use Rattle.base_axis.specs.Along.{Along}
 use Rattle.formula_tree.specs.declared.Corner.{Corner}
 use Rattle.formula_tree.specs.declared.Node.{Node}
 use Rattle.formula_tree.specs.Corners.{is_inside, lower_corner, higher_corner}
-use Rattle.formula_tree.specs.OnSheet.{is_on_sheet}
 use Rattle.formula_tree.specs.Placed.{is_placed_range}
 use Rattle.formula_back.specs.Leaves.{LeafTests, has_leaf}
 use Rattle.line_edits.specs.declared.EditKind.{EditKind}
@@ -14,12 +13,12 @@ use Rattle.line_edits.specs.Edit.{opposite_of}
 use Rattle.line_routes.specs.declared.tree_at.TreeAt.{TreeAt}
 use Rattle.line_routes.specs.EditWay.{edit_way}
 use Rattle.line_routes.specs.TreeAt.{tree_goes, tree_at_carried, way_of_tree}
-use Rattle.line_routes.specs.Trees.{is_exposed, is_whole, moved_corner}
-use Rattle.line_routes.specs.Way.{Way, back}
+use Rattle.line_routes.specs.Trees.{is_exposed, is_on_edited, is_whole, moved_corner}
+use Rattle.line_routes.specs.Way.{Way}
 
 -- a reference has to be kept where it is on the edited sheet and its place has no image
 unfoldable pub keeps_reference : Way → Option (List ℕ) → Corner → Bool
-keeps_reference w sheet corner = is_on_sheet w.own w.edited sheet && is_none (moved_corner w true corner)
+keeps_reference w sheet corner = is_on_edited w.is_edited w.edited sheet && is_none (moved_corner w true corner)
 
 -- the corners of an exposed range give it up: one of them has no image, or their images make the range whole along the axis
 abbrev pub is_given_up : Way → Option Corner → Option Corner → Bool
@@ -64,11 +63,10 @@ is_move (Move first count delta) = true
 is_move (Insert first count) = false
 is_move (Delete first count) = false
 
--- likewise of a formula that names its own sheet and the edited one, by where its cell goes. One whose cell goes nowhere stays, and has
--- to be kept where the way back takes its place elsewhere
+-- likewise of a formula that names its own sheet and the edited one, by where its cell goes. One whose cell goes nowhere has to be kept
 abbrev pub must_keep_between : Way → TreeAt → Option Position → Bool
 must_keep_between w t (Some to) = must_keep (way_of_tree w t to) t.node
-must_keep_between w t None = is_some (tree_goes (back w) t)
+must_keep_between w t None = true
 
 unfoldable pub must_keep_tree : Way → TreeAt → Bool
 must_keep_tree w t = must_keep_between w t (tree_goes w t)

@@ -1,5 +1,5 @@
 -- A tree with its own place and the names of its sheet and of the edited one.
-use Rattle.std.specs.Prelude.{◌≡◌, ℕ, true, List, Option, Some, None, if◌then◌else◌}
+use Rattle.std.specs.Prelude.{◌≡◌, ℕ, true, List, Option, Some, None, is_none, if◌then◌else◌}
 use Rattle.base_values.specs.declared.Position.{Position}
 use Rattle.base_values.specs.Places.{IsPlace}
 use Rattle.base_tables.specs.Folding.{same_folded}
@@ -7,22 +7,25 @@ use Rattle.formula_tree.specs.declared.Node.{Node}
 use Rattle.formula_tree.specs.Placed.{is_placed}
 use Rattle.line_routes.specs.declared.tree_at.TreeAt.{TreeAt}
 use Rattle.line_routes.specs.contracts.tree_at.TreeAtPartialEq.TheImpl as equality
-use Rattle.line_edits.specs.Moves.{place_image}
 use Rattle.line_routes.specs.Trees.{tree_carried}
 use Rattle.line_routes.specs.Trial.{part_by_trial}
-use Rattle.line_routes.specs.Way.{Way}
+use Rattle.line_routes.specs.Way.{Way, at, place_goes}
 
 -- a tree at a place of a sheet with this name
 abbrev pub tree_at : Node → List ℕ → Position → List ℕ → TreeAt
 tree_at node sheet place edited = record { node = node; sheet = sheet; place = place; edited = edited }
 
--- where the tree's cell goes: on the edited sheet along the map. Names are compared by folding
-unfoldable pub tree_goes : Way → TreeAt → Option Position
-tree_goes w t = if same_folded t.sheet t.edited then place_image w.along w.moves.to t.place else Some t.place
+-- how the map meets the tree's sheet: it is the edited one where their names are equal by folding
+abbrev pub way_on_tree : Way → TreeAt → Way
+way_on_tree w t = record w { edited = t.edited; is_edited = same_folded t.sheet t.edited }
 
--- how the map meets the tree
+-- how it meets the tree, whose cell goes to that place
 abbrev pub way_of_tree : Way → TreeAt → Position → Way
-way_of_tree w t to = record w { own = t.sheet; edited = t.edited; from = t.place; to = to }
+way_of_tree w t to = at (way_on_tree w t) t.place to
+
+-- where the tree's cell goes: on the edited sheet along the map
+unfoldable pub tree_goes : Way → TreeAt → Option Position
+tree_goes w t = place_goes (way_on_tree w t) t.place
 
 -- the tree carried along. It stays whole where its cell goes nowhere
 abbrev pub tree_at_moved : Way → TreeAt → Option Position → TreeAt
@@ -32,9 +35,9 @@ tree_at_moved w t (Some to) = record t { node = tree_carried (way_of_tree w t to
 unfoldable pub tree_at_carried : Way → TreeAt → TreeAt
 tree_at_carried w t = tree_at_moved w t (tree_goes w t)
 
--- the tree, where the way back does not give it
+-- what is kept: the tree, where its cell goes nowhere, or the way back does not give it
 abbrev pub tree_at_part : Way → TreeAt → Option TreeAt
-tree_at_part w t = part_by_trial equality.ghosts.eq tree_at_carried w t
+tree_at_part w t = if is_none (tree_goes w t) then Some t else part_by_trial equality.ghosts.eq tree_at_carried w t
 
 -- its cell is one of the sheet, its corners lie inside, and those of each range are in order
 pub record TreeAtLies (t : TreeAt) : Type 0 where

@@ -1,14 +1,14 @@
 -- Trees of formulas, carried along with their cells.
-use Rattle.std.proofs.Common.{◌≡◌, ℕ, Bool, true, List, Option, Some}
+use Rattle.std.proofs.Common.{◌≡◌, ℕ, Bool, true, List, Option, Some, None}
 use Rattle.std.specs.Prelude.{not, ◌&&◌, if◌then◌else◌}
 use Rattle.base_values.specs.declared.Position.{Position}
 use Rattle.base_values.specs.CodedEq.{same_value}
 use Rattle.base_axis.specs.Along.{Along}
+use Rattle.base_tables.specs.Folding.{same_folded}
 use Rattle.formula_tree.specs.declared.Corner.{Corner}
 use Rattle.formula_tree.specs.declared.Node.{Node}
 use Rattle.formula_tree.specs.contracts.node.Node.{the_row}
 use Rattle.formula_tree.specs.Corners.{corner_at, corner_to, is_whole_rows, is_whole_columns}
-use Rattle.formula_tree.specs.OnSheet.{is_on_sheet}
 use Rattle.formula_tree.specs.Moved.{Mapping, moved}
 use Rattle.formula_tree.specs.Placed.{is_placed}
 use Rattle.base_maps.specs.Carried.{if_there}
@@ -28,9 +28,14 @@ target w exposed corner = if exposed then if_there (corner_at w.from corner) (pl
 abbrev pub is_whole : Along → Corner → Corner → Bool
 is_whole a first second = a.of (is_whole_rows first second) (is_whole_columns first second)
 
+-- a reference or range is on the edited sheet: it names it, by folding, or names no sheet and stands on it
+unfoldable pub is_on_edited : Bool → List ℕ → Option (List ℕ) → Bool
+is_on_edited here edited (Some name) = same_folded name edited
+is_on_edited here edited None = here
+
 -- the corners of a range are exposed where it is on the edited sheet and isn't whole along the axis
 unfoldable pub is_exposed : Way → Option (List ℕ) → Corner → Corner → Bool
-is_exposed w sheet first second = is_on_sheet w.own w.edited sheet && not (is_whole w.along first second)
+is_exposed w sheet first second = is_on_edited w.is_edited w.edited sheet && not (is_whole w.along first second)
 
 -- a corner of a formula: its offsets are those from the new place
 abbrev pub moved_corner : Way → Bool → Corner → Option Corner
@@ -39,7 +44,7 @@ moved_corner w exposed corner = if_there (target w exposed corner) (λ place. So
 -- where the corners of a formula go
 abbrev pub following : Way → Mapping
 following w = record {
-  reference = λ sheet corner. moved_corner w (is_on_sheet w.own w.edited sheet) corner;
+  reference = λ sheet corner. moved_corner w (is_on_edited w.is_edited w.edited sheet) corner;
   first = λ sheet first second. moved_corner w (is_exposed w sheet first second) first;
   second = λ sheet first second. moved_corner w (is_exposed w sheet first second) second;
 }

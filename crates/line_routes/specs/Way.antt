@@ -7,13 +7,12 @@ use Rattle.line_edits.specs.declared.LineMap as line_map
 use Rattle.line_routes.specs.declared.route.Route.{Route}
 use Rattle.line_edits.specs.Moves.{LineMoves, IsOneToOne, turned, place_image}
 
--- the axis and the map, the id of the edited sheet, the names of the sheet and of the edited one, whether they are one sheet, and the
--- place of what is carried along, before and afterwards
+-- the axis and the map, the id and the name of the edited sheet, whether what is carried along stands on it, and its place before and
+-- afterwards
 pub record Way : Type 0 where
   pub along : Along
   pub moves : LineMoves
   pub sheet : ℕ
-  pub own : List ℕ
   pub edited : List ℕ
   pub is_edited : Bool
   pub from : Position
@@ -27,9 +26,9 @@ back w = record w { moves = turned w.moves; from = w.to; to = w.from }
 abbrev pub at : Way → Position → Position → Way
 at w from to = record w { from = from; to = to }
 
--- the same for what stands on the sheet of an id, which has that name
-abbrev pub on : Way → ℕ → List ℕ → Way
-on w id own = record w { own = own; is_edited = id == w.sheet }
+-- the same for what stands on the sheet of an id
+abbrev pub on : Way → ℕ → Way
+on w id = record w { is_edited = id == w.sheet }
 
 -- it is one: the map is one to one along an axis
 pub record IsWay (w : Way) : Type 0 where
@@ -50,7 +49,6 @@ way {a = a} {m = m} r = record {
   along = a.along;
   moves = record (m.moves r.map.now) { inserted = if r.brings then (m.moves r.map.now).inserted else None };
   sheet = r.sheet;
-  own = r.own.now;
   edited = r.edited.now;
   is_edited = r.is_edited;
   from = r.from;

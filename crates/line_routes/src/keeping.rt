@@ -11,7 +11,6 @@ ghost use Rattle.line_routes.specs.Way.{way};
 use crate::edit::edit_route;
 use crate::route::Route;
 use crate::tree::{Following, is_exposed, is_on_edited, is_whole, moved_corner};
-use crate::tree_at::{goes, named};
 use base_axis::Axis;
 use base_shared::Shared;
 use base_values::{Position, Text};
@@ -98,7 +97,7 @@ pub(crate) fn must_keep_along<A: Axis, M: LineMap<A>>(route: &Route<'_, A, M>, t
 }
 
 /// Whether a formula has to be kept that is that of a cell at a place of a sheet with this name. One
-/// whose cell goes nowhere stays, and has to be kept where the way back takes its place elsewhere.
+/// whose cell goes nowhere has to be kept.
 #[tactic(auto, unfolding(crate::specs::MustKeep::must_keep_tree, crate::specs::TreeAt::tree_goes))]
 pub(crate) fn must_keep_tree<A: Axis, M: LineMap<A>>(
     route: &Route<'_, A, M>,
@@ -110,9 +109,10 @@ pub(crate) fn must_keep_tree<A: Axis, M: LineMap<A>>(
     requires { IsPlace place }
     ensures { result ≡ must_keep_tree (way route.now) (tree_at node.now sheet.now place edited.now) }
 {
-    match goes(route, sheet, edited, place) {
-        Some(to) => must_keep_along(&named(route, sheet, edited, place, to), node),
-        None => goes(&route.back(), sheet, edited, place).is_some(),
+    let route = route.of_names(sheet, edited);
+    match route.goes(place) {
+        Some(to) => must_keep_along(&route.at(place, to), node),
+        None => true,
     }
 }
 

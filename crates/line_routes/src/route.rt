@@ -1,6 +1,5 @@
 ghost use Rattle.std.specs.Prelude.{◌≡◌, true};
 ghost use Rattle.base_values.specs.Places.{IsPlace};
-ghost use Rattle.base_tables.specs.Folding.{same_folded};
 
 use base_axis::Axis;
 use base_values::Position;
@@ -18,12 +17,9 @@ pub struct Route<'a, A: Axis, M: LineMap<A>> {
     pub brings: bool,
     /// The id of the edited sheet.
     pub sheet: u32,
-    /// The names of the sheet and of the edited one.
-    pub own: &'a str,
+    /// The name of the edited sheet.
     pub edited: &'a str,
-    /// Whether these are equal by folding.
-    pub is_own: bool,
-    /// Whether they are one sheet.
+    /// Whether what is carried along stands on the edited sheet.
     pub is_edited: bool,
     /// The place of what is carried along, before and afterwards.
     pub from: Position,
@@ -35,7 +31,6 @@ pub struct Route<'a, A: Axis, M: LineMap<A>> {
     pub ghost comes_back: { (M.moves opposite.now).from ≡ (M.moves map.now).to },
     pub ghost merges_back: { (M.moves opposite.now).merged ≡ (M.moves map.now).merged_back },
     pub ghost merges_again: { (M.moves opposite.now).merged_back ≡ (M.moves map.now).merged },
-    pub ghost is_named: { is_own ≡ same_folded own.now edited.now },
     pub ghost from_inside: { IsPlace from },
     pub ghost to_inside: { IsPlace to },
 }

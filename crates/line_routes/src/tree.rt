@@ -3,8 +3,7 @@ ghost use Rattle.std.specs.Bool.{Decides};
 ghost use Rattle.base_tables.specs.Folding.{same_folded};
 ghost use Rattle.base_values.specs.Places.{IsPlace};
 ghost use Rattle.base_values.specs.declared.EditError.TheVariants.{NoMemory};
-ghost use Rattle.formula_tree.specs.OnSheet.{is_on_sheet};
-ghost use Rattle.line_routes.specs.Trees.{target, is_exposed, is_whole, moved_corner, tree_carried, tree_part, TreeLies};
+ghost use Rattle.line_routes.specs.Trees.{target, is_exposed, is_on_edited, is_whole, moved_corner, tree_carried, tree_part, TreeLies};
 ghost use Rattle.line_routes.specs.Way.{way};
 
 use crate::keeping::must_keep_along;
@@ -70,17 +69,18 @@ fn is_name_of_edited<A: Axis, M: LineMap<A>>(route: &Route<'_, A, M>, name: &str
     name == route.edited || same_by_folding(name, route.edited)
 }
 
-/// Whether a reference or range with this sheet name stands on the edited sheet.
-#[tactic(auto, unfolding(formula_tree::specs::OnSheet::is_on_sheet))]
+/// Whether a reference or range with this sheet name stands on the edited sheet. One without a name
+/// stands on the sheet of its formula.
+#[tactic(auto, unfolding(crate::specs::Trees::is_on_edited))]
 pub(crate) fn is_on_edited<A: Axis, M: LineMap<A>>(
     route: &Route<'_, A, M>,
     sheet: &Option<Shared<Text>>,
 ) -> bool
-    ensures { result ≡ is_on_sheet (way route.now).own (way route.now).edited sheet.now }
+    ensures { result ≡ is_on_edited (way route.now).is_edited (way route.now).edited sheet.now }
 {
     match sheet {
         Some(name) => is_name_of_edited(route, name.get().as_str()),
-        None => route.is_own,
+        None => route.is_edited,
     }
 }
 

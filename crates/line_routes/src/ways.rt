@@ -1,4 +1,5 @@
 ghost use Rattle.std.specs.Prelude.{◌≡◌, true, IfSome};
+ghost use Rattle.base_tables.specs.Folding.{same_folded};
 ghost use Rattle.base_values.specs.Places.{IsPlace};
 ghost use Rattle.line_edits.specs.Moves.{place_image};
 ghost use Rattle.line_routes.specs.Way.{IsWay, at, back, on, place_goes, way};
@@ -22,9 +23,7 @@ impl<'a, A: Axis, M: LineMap<A>> Route<'a, A, M> {
             opposite: self.opposite,
             brings: self.brings,
             sheet: self.sheet,
-            own: self.own,
             edited: self.edited,
-            is_own: self.is_own,
             is_edited: self.is_edited,
             from,
             to,
@@ -36,16 +35,14 @@ impl<'a, A: Axis, M: LineMap<A>> Route<'a, A, M> {
     pub fn of_sheet<'t>(&self, sheet: u32, edited: &'t str) -> Route<'t, A, M>
     where
         'a: 't,
-        ensures { way result ≡ record (way self.now) { sheet = sheet; own = edited.now; edited = edited.now; is_edited = true } }
+        ensures { way result ≡ record (way self.now) { sheet = sheet; edited = edited.now; is_edited = true } }
     {
         Route {
             map: self.map,
             opposite: self.opposite,
             brings: self.brings,
             sheet,
-            own: edited,
             edited,
-            is_own: same_by_folding(edited, edited),
             is_edited: true,
             from: self.from,
             to: self.to,
@@ -53,21 +50,39 @@ impl<'a, A: Axis, M: LineMap<A>> Route<'a, A, M> {
         }
     }
 
-    /// The route of what stands on the sheet of this id, which has this name.
-    pub fn on<'t>(&self, sheet: u32, own: &'t str) -> Route<'t, A, M>
+    /// The route of what stands on the sheet of this id.
+    pub fn on<'t>(&self, sheet: u32) -> Route<'t, A, M>
     where
         'a: 't,
-        ensures { way result ≡ on (way self.now) sheet own.now }
+        ensures { way result ≡ on (way self.now) sheet }
     {
         Route {
             map: self.map,
             opposite: self.opposite,
             brings: self.brings,
             sheet: self.sheet,
-            own,
             edited: self.edited,
-            is_own: same_by_folding(own, self.edited),
             is_edited: sheet == self.sheet,
+            from: self.from,
+            to: self.to,
+            axis: PhantomData,
+        }
+    }
+
+    /// The route of what names its own sheet and the edited one. It stands on the edited sheet where
+    /// these names are equal by simple case folding.
+    pub(crate) fn of_names<'t>(&self, own: &str, edited: &'t str) -> Route<'t, A, M>
+    where
+        'a: 't,
+        ensures { way result ≡ record (way self.now) { edited = edited.now; is_edited = same_folded own.now edited.now } }
+    {
+        Route {
+            map: self.map,
+            opposite: self.opposite,
+            brings: self.brings,
+            sheet: self.sheet,
+            edited,
+            is_edited: same_by_folding(own, edited),
             from: self.from,
             to: self.to,
             axis: PhantomData,
@@ -83,9 +98,7 @@ impl<'a, A: Axis, M: LineMap<A>> Route<'a, A, M> {
             opposite: self.map,
             brings: false,
             sheet: self.sheet,
-            own: self.own,
             edited: self.edited,
-            is_own: self.is_own,
             is_edited: self.is_edited,
             from: self.to,
             to: self.from,

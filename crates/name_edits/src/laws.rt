@@ -1,7 +1,7 @@
 ghost use Rattle.std.specs.Prelude.{◌≡◌, ℕ, Ok};
 ghost use Rattle.sheet_grid.specs.Book.{Book};
 ghost use Rattle.sheet_rules.specs.WellFormed.{IsWellFormed};
-ghost use Rattle.book_laws.specs.Ways.{LeadsBothWays};
+ghost use Rattle.book_sheets.specs.Ways.{LeadsBothWays};
 ghost use Rattle.name_edits.specs.declared.name_change.NameChange.{NameChange};
 ghost use Rattle.name_edits.specs.NameChanges.{name_made, trees_lost};
 ghost use Rattle.name_edits.specs.NameDiffs.{name_forward, name_back};

@@ -5,4 +5,3 @@ pub mod Colors
 pub mod Escapes
 pub mod Commands
 pub mod CommandFits
-pub mod laws

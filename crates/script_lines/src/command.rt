@@ -1,9 +1,9 @@
 use base_axis::MergedCell;
 use base_styles::{Color, Theme};
-use base_values::{Exact, Text};
+use base_values::Text;
 
 /// A cell that a line names.
-#[derive(Clone, Copy, Debug, PartialEq, Eq)]
+#[derive(Clone, Copy, Debug)]
 pub struct NamedCell {
     /// The index of its sheet.
     pub sheet: u32,
@@ -11,34 +11,16 @@ pub struct NamedCell {
     pub column: i32,
 }
 
-impl Exact for NamedCell {
-    ghost use Rattle.std.proofs.Common.{rules};
-    ghost use Rattle.script_lines.specs.laws.NamedEquals.{named_cell_equals};
-
-    ghost copies = { λ a b h. Prim.search rules };
-
-    ghost equals = { named_cell_equals };
-}
-
 /// A rectangle of cells that a line names.
-#[derive(Clone, Copy, Debug, PartialEq, Eq)]
+#[derive(Clone, Copy, Debug)]
 pub struct NamedArea {
     /// The index of its sheet.
     pub sheet: u32,
     pub area: MergedCell,
 }
 
-impl Exact for NamedArea {
-    ghost use Rattle.std.proofs.Common.{rules};
-    ghost use Rattle.script_lines.specs.laws.NamedEquals.{named_area_equals};
-
-    ghost copies = { λ a b h. Prim.search rules };
-
-    ghost equals = { named_area_equals };
-}
-
 /// Rows or columns that a line names.
-#[derive(Clone, Copy, Debug, PartialEq, Eq)]
+#[derive(Clone, Copy, Debug)]
 pub struct NamedLines {
     /// The index of their sheet.
     pub sheet: u32,
@@ -48,17 +30,8 @@ pub struct NamedLines {
     pub count: i32,
 }
 
-impl Exact for NamedLines {
-    ghost use Rattle.std.proofs.Common.{rules};
-    ghost use Rattle.script_lines.specs.laws.NamedEquals.{named_lines_equals};
-
-    ghost copies = { λ a b h. Prim.search rules };
-
-    ghost equals = { named_lines_equals };
-}
-
 /// Rows or columns that a line names, and by how many they are to move.
-#[derive(Clone, Copy, Debug, PartialEq, Eq)]
+#[derive(Clone, Copy, Debug)]
 pub struct NamedMove {
     /// The index of their sheet.
     pub sheet: u32,
@@ -70,17 +43,8 @@ pub struct NamedMove {
     pub delta: i32,
 }
 
-impl Exact for NamedMove {
-    ghost use Rattle.std.proofs.Common.{rules};
-    ghost use Rattle.script_lines.specs.laws.NamedEquals.{named_move_equals};
-
-    ghost copies = { λ a b h. Prim.search rules };
-
-    ghost equals = { named_move_equals };
-}
-
 /// Rows or columns that a line names by the first and the last of them.
-#[derive(Clone, Copy, Debug, PartialEq, Eq)]
+#[derive(Clone, Copy, Debug)]
 pub struct NamedSpan {
     /// The index of their sheet.
     pub sheet: u32,
@@ -88,18 +52,9 @@ pub struct NamedSpan {
     pub last: i32,
 }
 
-impl Exact for NamedSpan {
-    ghost use Rattle.std.proofs.Common.{rules};
-    ghost use Rattle.script_lines.specs.laws.NamedEquals.{named_span_equals};
-
-    ghost copies = { λ a b h. Prim.search rules };
-
-    ghost equals = { named_span_equals };
-}
-
 /// Rows or columns that a line names by the first and the last of them, and the size that they are to
 /// have.
-#[derive(Clone, Copy, Debug, PartialEq, Eq)]
+#[derive(Clone, Copy, Debug)]
 pub struct NamedSize {
     /// The index of their sheet.
     pub sheet: u32,
@@ -109,17 +64,8 @@ pub struct NamedSize {
     pub size: i32,
 }
 
-impl Exact for NamedSize {
-    ghost use Rattle.std.proofs.Common.{rules};
-    ghost use Rattle.script_lines.specs.laws.NamedEquals.{named_size_equals};
-
-    ghost copies = { λ a b h. Prim.search rules };
-
-    ghost equals = { named_size_equals };
-}
-
 /// A rectangle that a line names, and the row or the column to which it is to be filled.
-#[derive(Clone, Copy, Debug, PartialEq, Eq)]
+#[derive(Clone, Copy, Debug)]
 pub struct NamedFill {
     /// The index of its sheet.
     pub sheet: u32,
@@ -127,34 +73,16 @@ pub struct NamedFill {
     pub to: i32,
 }
 
-impl Exact for NamedFill {
-    ghost use Rattle.std.proofs.Common.{rules};
-    ghost use Rattle.script_lines.specs.laws.NamedEquals.{named_fill_equals};
-
-    ghost copies = { λ a b h. Prim.search rules };
-
-    ghost equals = { named_fill_equals };
-}
-
 /// How many lines of a sheet that a line names are to be frozen.
-#[derive(Clone, Copy, Debug, PartialEq, Eq)]
+#[derive(Clone, Copy, Debug)]
 pub struct NamedCount {
     /// The index of the sheet.
     pub sheet: u32,
     pub count: i32,
 }
 
-impl Exact for NamedCount {
-    ghost use Rattle.std.proofs.Common.{rules};
-    ghost use Rattle.script_lines.specs.laws.NamedEquals.{named_count_equals};
-
-    ghost copies = { λ a b h. Prim.search rules };
-
-    ghost equals = { named_count_equals };
-}
-
 /// A sheet that a line names, and where it is to go.
-#[derive(Clone, Copy, Debug, PartialEq, Eq)]
+#[derive(Clone, Copy, Debug)]
 pub struct NamedSheetMove {
     /// The index of the sheet.
     pub from: u32,
@@ -162,100 +90,46 @@ pub struct NamedSheetMove {
     pub to: u32,
 }
 
-impl Exact for NamedSheetMove {
-    ghost use Rattle.std.proofs.Common.{rules};
-    ghost use Rattle.script_lines.specs.laws.NamedEquals.{named_sheet_move_equals};
-
-    ghost copies = { λ a b h. Prim.search rules };
-
-    ghost equals = { named_sheet_move_equals };
-}
-
 /// The colour that a line names for a sheet.
-#[derive(Clone, Copy, Debug, PartialEq, Eq)]
+#[derive(Clone, Copy, Debug)]
 pub struct NamedColor {
     /// The index of the sheet.
     pub sheet: u32,
     pub color: Color,
 }
 
-impl Exact for NamedColor {
-    ghost use Rattle.std.proofs.Common.{rules};
-    ghost use Rattle.script_lines.specs.laws.NamedEquals.{named_color_equals};
-
-    ghost copies = { λ a b h. Prim.search rules };
-
-    ghost equals = { named_color_equals };
-}
-
 /// Whether the grid lines of a sheet that a line names are to be drawn.
-#[derive(Clone, Copy, Debug, PartialEq, Eq)]
+#[derive(Clone, Copy, Debug)]
 pub struct NamedGrid {
     /// The index of the sheet.
     pub sheet: u32,
     pub show: bool,
 }
 
-impl Exact for NamedGrid {
-    ghost use Rattle.std.proofs.Common.{rules};
-    ghost use Rattle.script_lines.specs.laws.NamedEquals.{named_grid_equals};
-
-    ghost copies = { λ a b h. Prim.search rules };
-
-    ghost equals = { named_grid_equals };
-}
-
 /// A defined name that a line names.
-#[derive(Clone, Debug, PartialEq, Eq, Drop)]
+#[derive(Clone, Debug, Drop)]
 pub struct NamedName {
     /// The index of the sheet where alone it is known. None stands for the whole workbook.
     pub scope: Option<u32>,
     pub name: Text,
 }
 
-impl Exact for NamedName {
-    ghost use Rattle.std.proofs.Common.{rules};
-    ghost use Rattle.script_lines.specs.laws.NamedEquals.{named_name_equals};
-
-    ghost copies = { λ a b h. Prim.search rules };
-
-    ghost equals = { named_name_equals };
-}
-
 /// A defined name that a line names, and what it becomes.
-#[derive(Clone, Debug, PartialEq, Eq, Drop)]
+#[derive(Clone, Debug, Drop)]
 pub struct NamedUpdate {
     pub old: NamedName,
     pub new: NamedName,
 }
 
-impl Exact for NamedUpdate {
-    ghost use Rattle.std.proofs.Common.{rules};
-    ghost use Rattle.script_lines.specs.laws.NamedEquals.{named_update_equals};
-
-    ghost copies = { λ a b h. Prim.search rules };
-
-    ghost equals = { named_update_equals };
-}
-
 /// A rectangle that a line names, and the path of an attribute of styles.
-#[derive(Clone, Debug, PartialEq, Eq, Drop)]
+#[derive(Clone, Debug, Drop)]
 pub struct NamedPath {
     pub area: NamedArea,
     pub path: Text,
 }
 
-impl Exact for NamedPath {
-    ghost use Rattle.std.proofs.Common.{rules};
-    ghost use Rattle.script_lines.specs.laws.NamedEquals.{named_path_equals};
-
-    ghost copies = { λ a b h. Prim.search rules };
-
-    ghost equals = { named_path_equals };
-}
-
 /// A conditional rule that a line names.
-#[derive(Clone, Copy, Debug, PartialEq, Eq)]
+#[derive(Clone, Copy, Debug)]
 pub struct NamedRule {
     /// The index of its sheet.
     pub sheet: u32,
@@ -263,17 +137,8 @@ pub struct NamedRule {
     pub index: u32,
 }
 
-impl Exact for NamedRule {
-    ghost use Rattle.std.proofs.Common.{rules};
-    ghost use Rattle.script_lines.specs.laws.NamedEquals.{named_rule_equals};
-
-    ghost copies = { λ a b h. Prim.search rules };
-
-    ghost equals = { named_rule_equals };
-}
-
 /// Two conditional rules of a sheet that a line names.
-#[derive(Clone, Copy, Debug, PartialEq, Eq)]
+#[derive(Clone, Copy, Debug)]
 pub struct NamedSwap {
     /// The index of their sheet.
     pub sheet: u32,
@@ -281,15 +146,6 @@ pub struct NamedSwap {
     pub index_a: u32,
     /// The index of the other, which may be the same.
     pub index_b: u32,
-}
-
-impl Exact for NamedSwap {
-    ghost use Rattle.std.proofs.Common.{rules};
-    ghost use Rattle.script_lines.specs.laws.NamedEquals.{named_swap_equals};
-
-    ghost copies = { λ a b h. Prim.search rules };
-
-    ghost equals = { named_swap_equals };
 }
 
 /// What a line of a script asks for. Rows, columns and counts are those that the line names, and may lie

@@ -6,7 +6,7 @@ use Rattle.base_values.specs.declared.EditError.{EditError}
 use Rattle.sheet_wire.specs.QueueBytes.{FitsQueue}
 use Rattle.script_lines.specs.Commands.{command_of}
 use Rattle.script_lines.specs.declared.Command.{Command}
-use Rattle.user_model.specs.Machine.{State}
+use Rattle.open_book.specs.Machine.{State}
 use Rattle.script_runs.specs.declared.session.Session.{Session}
 use Rattle.script_runs.specs.Session.{SessionStands, Runs, OnSyncFound, LineSends}
 use Rattle.script_runs.specs.Script.{command_reply, command_next, line_reply, line_next}

@@ -16,11 +16,11 @@ use Rattle.rule_edits.specs.RuleEdits.{come_behind, is_rule_formula, next_priori
 use Rattle.rule_edits.specs.RuleEdits.RuleEdit.{Add}
 use Rattle.edit_plans.specs.RuleEdits.{rules_edited, with_changes}
 use Rattle.script_lines.specs.declared.NamedArea.{NamedArea}
-use Rattle.user_model.specs.Document.{Document}
-use Rattle.user_model.specs.Machine.{State, edited}
+use Rattle.open_book.specs.Document.{Document}
+use Rattle.open_book.specs.Machine.{State, edited}
 use Rattle.user_model.specs.Places.{rule_goes}
 use Rattle.user_model.specs.Reading.{formula_at, formula_typed}
-use Rattle.user_model.specs.Stands.{StandsFor, Turns}
+use Rattle.open_book.specs.Stands.{StandsFor, Turns}
 use Rattle.user_model.specs.Typing.{rule_formula}
 use Rattle.script_runs.specs.Script.{plain_rule, rule_asked, rule_typed}
 

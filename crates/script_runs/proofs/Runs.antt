@@ -3,7 +3,7 @@ use Rattle.std.proofs.Common.{◌≡◌, ℕ, List, ◌∷◌, ◌++◌, sym, ap
 use Rattle.std.specs.declared.option.Option.{Option}
 use Rattle.std.specs.declared.option.Option.TheVariants.{Some}
 use Rattle.script_lines.specs.Parts.{parts_at, parts_after, without_return}
-use Rattle.user_model.specs.Machine.{State}
+use Rattle.open_book.specs.Machine.{State}
 use Rattle.script_runs.specs.declared.session.Session.{Session}
 use Rattle.script_runs.specs.Session.{SessionStands, LineSends, SoundThrough}
 use Rattle.script_runs.specs.Script.{replies, after, line_reply, line_next}

@@ -4,9 +4,9 @@ use Rattle.std.specs.Prelude.{codes, IfOk, IsOkUnless}
 use Rattle.base_values.specs.declared.EditError.{EditError}
 use Rattle.base_values.specs.declared.EditError.TheVariants.{NoMemory}
 use Rattle.user_model.specs.Beginning.{new_state}
-use Rattle.user_model.specs.Machine.{State}
-use Rattle.user_model.specs.Stands.{StandsFor, Opens}
-use Rattle.user_model.specs.Values.{Session}
+use Rattle.open_book.specs.Machine.{State}
+use Rattle.open_book.specs.Stands.{StandsFor, Opens}
+use Rattle.open_book.specs.Values.{Session}
 use Rattle.script_runs.specs.Script.{start}
 
 new_is_start : new_state (codes "workbook") (codes "en") (codes "UTC") (codes "en") ≡ Ok start

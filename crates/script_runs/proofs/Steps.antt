@@ -9,16 +9,16 @@ use Rattle.sheet_history.specs.declared.Diff.{Diff}
 use Rattle.sheet_history.specs.declared.DiffType.TheVariants.{Undo, Redo}
 use Rattle.sheet_history.specs.Diffs.{book_before, book_after}
 use Rattle.edit_plans.specs.Edits.{Edit, changed, is_silent}
-use Rattle.user_model.specs.Machine.{Step, State, edited, edit_of, moved, redo_from, redo_list, redo_of, redo_stale, seen_along, speaking_in, undo_from, undo_list, undo_of, undo_stale}
+use Rattle.open_book.specs.Machine.{Step, State, edited, edit_of, moved, redo_from, redo_list, redo_of, redo_stale, seen_along, speaking_in, undo_from, undo_list, undo_of, undo_stale}
 use Rattle.base_tables.specs.declared.Language.{Language}
 use Rattle.base_tables.specs.declared.Locale.{Locale}
 use Rattle.base_tables.specs.declared.Zone.{Zone}
 use Rattle.sheet_history.specs.declared.Setting.TheVariants as setting
 use Rattle.edit_plans.specs.Edits.Edit.{SetSetting}
 use Rattle.user_model.specs.Settings.{language_named, language_set, locale_given, locale_named, locale_set, zone_given, zone_named, zone_set}
-use Rattle.user_model.specs.Document.{Document}
-use Rattle.user_model.specs.Stands.{StandsFor, Moves, Turns}
-use Rattle.user_model.specs.Values.{Session as Opened}
+use Rattle.open_book.specs.Document.{Document}
+use Rattle.open_book.specs.Stands.{StandsFor, Moves, Turns}
+use Rattle.open_book.specs.Values.{Session as Opened}
 use Rattle.script_runs.specs.Script.{outcome, state_after}
 use Rattle.script_runs.specs.Session.{SessionStands, Runs}
 use Rattle.script_runs.specs.declared.session.Session.{Session}

@@ -6,9 +6,9 @@ use Rattle.base_values.specs.declared.EditError.TheVariants.{NoMemory}
 use Rattle.sheet_grid.specs.Book.{Book}
 use Rattle.sheet_history.specs.declared.QueueDiffs.{QueueDiffs}
 use Rattle.sheet_wire.specs.QueueBytes.{FitsQueue}
-use Rattle.user_model.specs.Machine.{State, synced_of}
-use Rattle.user_model.specs.Sound.{Carries}
-use Rattle.user_model.specs.Stands.{StandsFor}
+use Rattle.open_book.specs.Machine.{State, synced_of}
+use Rattle.open_book.specs.Sound.{Carries}
+use Rattle.open_book.specs.Stands.{StandsFor}
 use Rattle.script_runs.specs.Session.{Runs}
 use Rattle.script_runs.specs.declared.session.Session.{Session}
 

@@ -32,7 +32,7 @@ use Rattle.rule_edits.specs.RuleEdits.RuleEdit.{Add as AddRule, Delete as Delete
 use Rattle.edit_plans.specs.Edits.{Edit}
 use Rattle.edit_plans.specs.Edits.Edit.{Input, ArrayInput, SetLink, Merge, Unmerge, Lines, MoveLines, AddSheet, CopySheet, DeleteSheet, MoveSheet, RenameSheet, ChangeNames, EditRules, SetField, SetSize, SetHidden, SetRangeStyle, ClearRange, ClearFormatting, SetSetting, Fill}
 use Rattle.range_styles.specs.declared.Clearing.TheVariants.{Contents, Cells}
-use Rattle.user_model.specs.Machine.{State, begun, edit_of, undo_of, redo_of, synced_of, sync_bytes}
+use Rattle.open_book.specs.Machine.{State, begun, edit_of, undo_of, redo_of, synced_of, sync_bytes}
 use Rattle.user_model.specs.Reading.{content_text, formula_typed, link_to, typed}
 use Rattle.user_model.specs.Settings.{language_set, locale_set, zone_set}
 

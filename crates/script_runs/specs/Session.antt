@@ -9,9 +9,9 @@ use Rattle.script_lines.specs.Parts.{without_return}
 use Rattle.script_lines.specs.Commands.{command_of}
 use Rattle.script_lines.specs.declared.Command.{Command}
 use Rattle.script_lines.specs.declared.Command.TheVariants as command
-use Rattle.user_model.specs.Machine.{State}
-use Rattle.user_model.specs.Sound.{IsSound}
-use Rattle.user_model.specs.Stands.{StandsFor}
+use Rattle.open_book.specs.Machine.{State}
+use Rattle.open_book.specs.Sound.{IsSound}
+use Rattle.open_book.specs.Stands.{StandsFor}
 use Rattle.script_runs.specs.declared.session.Session.{Session}
 use Rattle.script_runs.specs.Script.{reply_to, next_of, line_next}
 

@@ -6,7 +6,7 @@ ghost use Rattle.format_rules.specs.Canonical.{has_canonical_numbers};
 ghost use Rattle.script_dump.specs.Text.{line, hex};
 ghost use Rattle.script_runs.specs.Script.{refusal, outcome, plain_rule, rule_typed, value_line, start};
 ghost use Rattle.user_model.specs.Reading.{rectangle_of};
-ghost use Rattle.user_model.specs.Stands.{OnStates, StandsFor, Turns};
+ghost use Rattle.open_book.specs.Stands.{OnStates, StandsFor, Turns};
 
 use base_axis::Area;
 use base_shared::Shared;
@@ -160,7 +160,7 @@ fn new_model(alloc: Global) -> Result<UserModel<ClearAll>, EditError>
 impl Session {
     ghost use Rattle.script_lines.specs.Commands.{command_of};
     ghost use Rattle.script_lines.specs.declared.Command.TheVariants as command;
-    ghost use Rattle.user_model.specs.Machine.{State};
+    ghost use Rattle.open_book.specs.Machine.{State};
     ghost use Rattle.script_runs.specs.Script.{line_reply, line_next, lines_of, replies, after};
     ghost use Rattle.script_runs.specs.Session.{SessionStands, Runs, RunsCommand, LineSends, SoundThrough};
 

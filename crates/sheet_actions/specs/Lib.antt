@@ -1,5 +1,6 @@
 pub mod Checked
 pub mod Edited
+pub mod Formulas
 pub mod GreatestLine
 pub mod Planned
 pub mod Shown

@@ -13,3 +13,5 @@ pub mod FollowedWellFormed
 pub mod OwnSheets
 pub mod Placed
 pub mod WellFormedProp
+pub mod KeptFormulas
+pub mod DenotedRanges

@@ -8,7 +8,7 @@ mod laws;
 mod model;
 mod plan;
 
-pub use laws::edit_keeps_rules;
+pub use laws::{edit_keeps_rules, formulas_are_kept, ranges_denote};
 pub use model::Model;
 pub use plan::{plan_delete, plan_insert, plan_move};
 pub use sheet_lines::{KeptLines, line_back, line_edit};

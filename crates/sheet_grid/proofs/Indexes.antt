@@ -6,7 +6,7 @@ use Rattle.std.specs.Ordering.{eq_by_cmp, is_lt}
 use Rattle.std.specs.Cmp.{IsTotalOrder}
 use Rattle.std.proofs.lemmas.Map.Lookups.{CmpEqualImpliesEq}
 use Rattle.std.specs.FinMap.Entries.{is_sorted, below_all}
-use Rattle.std.specs.FinMap.{FinMap, empty, entries, entries_sorted, from_entries, from_sorted, entries-from_sorted, get, get-empty, get-from_entries, get-from_sorted, same_map, values}
+use Rattle.std.specs.FinMap.{FinMap, empty, entries, entries_sorted, from_entries, from_sorted, entries-from_sorted, get, get-empty, get-from_entries, get-from_sorted, same_map}
 use Rattle.base_values.specs.KeyMap.{with_entry}
 use Rattle.base_values.specs.laws.KeyMap.{get-with_entry}
 use Rattle.base_maps.specs.Carried.{entry_made, gathered, if_there}

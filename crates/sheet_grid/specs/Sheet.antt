@@ -1,11 +1,12 @@
 -- A sheet, as contracts see it.
-use Rattle.std.proofs.Common.{ℕ, ℤ, pos, List, [], Option, Some, None, Result, Bool, true}
+use Rattle.std.proofs.Common.{ℕ, ℤ, pos, List, [], Option, Some, None, Result, Ok, Err, Bool, true}
+use Rattle.std.specs.Prelude.{◌&&◌, int_le, if◌then◌else◌}
 use Rattle.std.specs.Option.{option_map, option_or, unwrap_or}
 use Rattle.std.specs.FinMap as fin
 use Rattle.std.specs.FinMap.{FinMap}
 use Rattle.std.specs.Ordering.{int_cmp}
 use Rattle.base_values.specs.declared.EditError.{EditError}
-use Rattle.base_values.specs.declared.EditError.TheVariants.{InvalidRow, InvalidColumn}
+use Rattle.base_values.specs.declared.EditError.TheVariants.{InvalidRow, InvalidColumn, FrozenCount}
 use Rattle.base_values.specs.declared.Position.{Position}
 use Rattle.base_values.specs.Answers.{map_ok}
 use Rattle.base_values.specs.KeyMap.{with_entry}
@@ -75,6 +76,22 @@ with_entries sheet entries = record sheet {
 -- cells, and nothing else
 abbrev pub only_cells : FinMap position_cmp Cell → SheetEntries
 only_cells cells = record { cells = cells; links = fin.empty; rows = fin.empty; columns = fin.empty; merges = []; formattings = [] }
+
+-- a count of lines that is at most this
+abbrev pub is_count : ℤ → ℤ → Bool
+is_count most count = int_le (pos 0) count && int_le count most
+
+-- a count of lines that stay in sight, or the refusal of one below 0 or above the most that may
+unfoldable pub frozen_count : ℤ → ℤ → Result ℤ EditError
+frozen_count most count = if is_count most count then Ok count else Err FrozenCount
+
+-- so many rows stay in sight, fewer than the sheet has
+abbrev pub rows_frozen : Sheet → ℤ → Result Sheet EditError
+rows_frozen sheet count = map_ok (λ rows. record sheet { frozen_rows = rows }) (frozen_count (pos 1048575) count)
+
+-- so many columns do
+abbrev pub columns_frozen : Sheet → ℤ → Result Sheet EditError
+columns_frozen sheet count = map_ok (λ columns. record sheet { frozen_columns = columns }) (frozen_count (pos 16383) count)
 
 -- the cell at a row and a column, or the first of them that is outside
 abbrev pub cell_at : Sheet → ℤ → ℤ → Result (Option Cell) EditError

@@ -1,6 +1,6 @@
 //! The cells of a sheet, with an index of its arrays.
 
-ghost use Rattle.std.specs.Prelude.{◌≡◌, None, Some, Ok, OnOk, OnErr, IfOk, IfSome, IsOkUnless, map};
+ghost use Rattle.std.specs.Prelude.{◌≡◌, ◌≢◌, None, Some, Ok, OnOk, OnErr, IfOk, IfSome, IsOkUnless, map};
 ghost use Rattle.std.specs.Cmp.{partial_equiv_from_equiv};
 ghost use Rattle.std.specs.FinMap as fin;
 ghost use Rattle.base_values.specs.KeyMap.{with_entry, same_entries};
@@ -114,8 +114,8 @@ fn put_new_array(
     put
 }
 
-/// Puts a cell where another array is noted, and notes its array in place of that. `NoMemory`
-/// leaves both maps as they were.
+/// Puts a cell where another array is noted, and notes its array in place of that, which takes no
+/// memory. `NoMemory` leaves both maps as they were.
 fn put_other_array(
     cells: &mut PlaceMap<Shared<Cell>>,
     arrays: &mut PlaceMap<MergedCell>,
@@ -123,17 +123,16 @@ fn put_other_array(
     entry: Option<Shared<Cell>>,
     array: MergedCell,
 ) -> Result<(), EditError>
-    requires { IsPlace place }
+    requires inside { IsPlace place }
+    requires there { fin.get arrays.old place ≢ None }
     ensures cells { OnOk result (cells.new ≡ with_entry cells.old place entry) }
     ensures arrays { OnOk result (arrays.new ≡ with_entry arrays.old place (Some array)) }
     ensures cells_stay { OnErr result (cells.new ≡ cells.old) }
     ensures arrays_stay { OnErr result (arrays.new ≡ arrays.old) }
     ensures only { IsOkUnless result NoMemory }
 {
-    let mut later = copy_of(&*arrays)?;
-    let _before = later.insert(place, array)?;
     cells.put(place, entry)?;
-    *arrays = later;
+    let _put = arrays.insert(place, array);
     Ok(())
 }
 
@@ -225,7 +224,7 @@ impl CellMap {
     }
 
     /// Sets the cell of a place, or takes it away, which takes no memory. `NoMemory` leaves the cells
-    /// as they were. To put an array where one of more than one cell stands costs a copy of the index.
+    /// as they were.
     pub(crate) fn put(
         &mut self,
         place: Position,

@@ -1,17 +1,14 @@
-ghost use Rattle.std.specs.Prelude.{◌≡◌, ◌≢◌, [], None, Ok, Err, IfOk, IfSome, IsTrue, All, map};
+ghost use Rattle.std.specs.Prelude.{◌≡◌, ◌≢◌, [], None, Ok, Err, IfOk, IfSome, All, map};
 ghost use Rattle.std.specs.FinMap as fin;
 ghost use Rattle.base_values.specs.Answers.{Returns, Changes};
 ghost use Rattle.base_values.specs.declared.EditError.TheVariants.{NoMemory};
 ghost use Rattle.base_values.specs.Places.{IsPlace};
-ghost use Rattle.base_decimal.specs.Canonical.{IsCanonical};
-ghost use Rattle.formula_tree.specs.Numbers.{has_canonical_numbers};
-ghost use Rattle.cell_content.specs.CanonicalContent.{IsCanonicalContent};
 ghost use Rattle.sheet_grid.specs.Dimension.{IsLeastRectangle, IsRectangle, first_place, extents_of};
 ghost use Rattle.sheet_grid.specs.CanonicalCell.{IsCanonicalCell};
 ghost use Rattle.sheet_grid.specs.Arrays.{large_arrays_of};
-ghost use Rattle.sheet_grid.specs.Sheet.{Sheet, new_sheet, cell_at, cell_put, content_put, content_cleared};
-ghost use Rattle.cell_content.specs.declared.Content.TheVariants.{Empty, Number, Boolean, Error as ErrorValue, Text as TextValue, Formula, Dynamic, Array};
+ghost use Rattle.sheet_grid.specs.Sheet.{Sheet, new_sheet, cell_at, cell_put};
 
+mod contents;
 mod entries;
 mod fields;
 mod formattings;
@@ -28,14 +25,10 @@ use crate::line_attr::LineAttr;
 use crate::link::Link;
 use crate::state::SheetState;
 use base_axis::{AxisMap, ColumnAxis, MergeList, MergedCell, RowAxis};
-use base_decimal::Decimal;
 use base_shared::Shared;
-use base_styles::{Color, Style};
-use base_tables::Error;
+use base_styles::Color;
 use base_values::{EditError, Exact, PlaceMap, Position, Text, copy_of, place_of};
-use cell_content::Content;
 use format_rules::RuleList;
-use formula_tree::Node;
 use std::alloc::{AllocError, Global};
 use std::collections::btree_map::Iter;
 use std::marker::Model;
@@ -240,12 +233,6 @@ impl Worksheet {
         }
     }
 
-    fn shared_tree(&self, tree: Node) -> Result<Shared<Node>, EditError>
-        ensures { Returns result (Ok tree) }
-    {
-        Ok(Shared::new(self.name.allocator(), tree)?)
-    }
-
     /// Sets the cell at a row and a column, or takes it away.
     ///
     /// `InvalidRow` where the row is outside the sheet, else `InvalidColumn` where the column is.
@@ -287,175 +274,33 @@ impl Worksheet {
         let place = place_of(row, column)?;
         self.cells.put(place, entry)
     }
+}
 
-    fn put_content(
-        &mut self,
-        row: i32,
-        column: i32,
-        content: Content,
-        style: &Shared<Style>,
-    ) -> Result<(), EditError>
-        requires { IsCanonicalContent content }
-        ensures { Changes result self.old self.new (content_put self.old row column content style.now) }
+impl Worksheet {
+    fn copied_places(&self) -> Result<(CellMap, PlaceMap<Link>), AllocError>
+        ensures { IfOk result (λ copies. copies ≡ (self.now.cells, self.now.links)) }
     {
-        let _place = place_of(row, column)?;
-        let style = copy_of(style)?;
-        self.put_cell(row, column, Some(Cell { content, style }))
+        let cells = self.cells.clone()?;
+        let links = self.links.clone()?;
+        Ok((cells, links))
     }
 
-    /// Sets the cell at a row and a column to a number with a style.
-    ///
-    /// `InvalidRow` where the row is outside the sheet, else `InvalidColumn` where the column is.
-    pub fn set_cell_with_number(
-        &mut self,
-        row: i32,
-        column: i32,
-        value: Decimal,
-        style: &Shared<Style>,
-    ) -> Result<(), EditError>
-        requires { IsCanonical value }
-        ensures { Changes result self.old self.new (content_put self.old row column (Number value) style.now) }
+    fn copied_lines(
+        &self,
+    ) -> Result<(AxisMap<RowAxis, LineAttr>, AxisMap<ColumnAxis, LineAttr>), AllocError>
+        ensures { IfOk result (λ copies. copies ≡ (self.now.rows, self.now.columns)) }
     {
-        self.put_content(row, column, Content::Number(value), style)
+        let rows = self.rows.clone()?;
+        let columns = self.columns.clone()?;
+        Ok((rows, columns))
     }
 
-    /// Sets the cell at a row and a column to a boolean with a style.
-    ///
-    /// `InvalidRow` where the row is outside the sheet, else `InvalidColumn` where the column is.
-    pub fn set_cell_with_boolean(
-        &mut self,
-        row: i32,
-        column: i32,
-        value: bool,
-        style: &Shared<Style>,
-    ) -> Result<(), EditError>
-        ensures { Changes result self.old self.new (content_put self.old row column (Boolean value) style.now) }
+    fn copied_lists(&self) -> Result<(MergeList, RuleList), AllocError>
+        ensures { IfOk result (λ copies. copies ≡ (self.now.merges, self.now.formattings)) }
     {
-        self.put_content(row, column, Content::Boolean(value), style)
-    }
-
-    /// Sets the cell at a row and a column to an error with a style.
-    ///
-    /// `InvalidRow` where the row is outside the sheet, else `InvalidColumn` where the column is.
-    pub fn set_cell_with_error(
-        &mut self,
-        row: i32,
-        column: i32,
-        value: Error,
-        style: &Shared<Style>,
-    ) -> Result<(), EditError>
-        ensures { Changes result self.old self.new (content_put self.old row column (ErrorValue value) style.now) }
-    {
-        self.put_content(row, column, Content::Error(value), style)
-    }
-
-    /// Sets the cell at a row and a column to a text with a style.
-    ///
-    /// `InvalidRow` where the row is outside the sheet, else `InvalidColumn` where the column is.
-    pub fn set_cell_with_string(
-        &mut self,
-        row: i32,
-        column: i32,
-        value: &str,
-        style: &Shared<Style>,
-    ) -> Result<(), EditError>
-        ensures { Changes result self.old self.new (content_put self.old row column (TextValue value.now) style.now) }
-    {
-        let _place = place_of(row, column)?;
-        let text = Text::new(String::from_str(self.name.allocator(), value)?);
-        self.put_content(row, column, Content::Text(text), style)
-    }
-
-    /// Sets the cell at a row and a column to a formula with a style. The formula may be any tree:
-    /// it is not asked whether it fits the place.
-    ///
-    /// `InvalidRow` where the row is outside the sheet, else `InvalidColumn` where the column is.
-    pub fn set_cell_with_formula(
-        &mut self,
-        row: i32,
-        column: i32,
-        value: Node,
-        style: &Shared<Style>,
-    ) -> Result<(), EditError>
-        requires { IsTrue (has_canonical_numbers value) }
-        ensures { Changes result self.old self.new (content_put self.old row column (Formula value) style.now) }
-    {
-        let _place = place_of(row, column)?;
-        let tree = self.shared_tree(value)?;
-        self.put_content(row, column, Content::Formula(tree), style)
-    }
-
-    /// Sets the cell at a row and a column to a formula whose value may spill, with a style. The
-    /// formula may be any tree: it is not asked whether it fits the place.
-    ///
-    /// `InvalidRow` where the row is outside the sheet, else `InvalidColumn` where the column is.
-    pub fn set_cell_with_dynamic_formula(
-        &mut self,
-        row: i32,
-        column: i32,
-        value: Node,
-        style: &Shared<Style>,
-    ) -> Result<(), EditError>
-        requires { IsTrue (has_canonical_numbers value) }
-        ensures { Changes result self.old self.new (content_put self.old row column (Dynamic value) style.now) }
-    {
-        let _place = place_of(row, column)?;
-        let tree = self.shared_tree(value)?;
-        self.put_content(row, column, Content::Dynamic(tree), style)
-    }
-
-    /// Sets the cell at a row and a column to a formula whose values fill a rectangle, so many
-    /// columns wide and rows high, with a style. The formula may be any tree, and the sides any
-    /// numbers: it is not asked whether they fit the place.
-    ///
-    /// `InvalidRow` where the row is outside the sheet, else `InvalidColumn` where the column is.
-    pub fn set_cell_with_array_formula(
-        &mut self,
-        row: i32,
-        column: i32,
-        value: Node,
-        style: &Shared<Style>,
-        width: i32,
-        height: i32,
-    ) -> Result<(), EditError>
-        requires { IsTrue (has_canonical_numbers value) }
-        ensures { Changes result self.old self.new (content_put self.old row column (Array value width height) style.now) }
-    {
-        let _place = place_of(row, column)?;
-        let tree = self.shared_tree(value)?;
-        let content = Content::Array {
-            tree,
-            width,
-            height,
-        };
-        self.put_content(row, column, content, style)
-    }
-
-    /// Empties the cell at a row and a column, and keeps the style that the place shows. A place
-    /// without a cell gets an empty one.
-    ///
-    /// `InvalidRow` where the row is outside the sheet, else `InvalidColumn` where the column is.
-    pub fn cell_clear_contents(&mut self, row: i32, column: i32) -> Result<(), EditError>
-        ensures { Changes result self.old self.new (content_cleared self.old row column) }
-    {
-        let place = place_of(row, column)?;
-        let style = self.style_to_share(place)?;
-        let content = Content::Empty;
-        self.put_cell(row, column, Some(Cell { content, style }))
-    }
-
-    /// Empties the cell at a row and a column, and gives it a style.
-    ///
-    /// `InvalidRow` where the row is outside the sheet, else `InvalidColumn` where the column is.
-    pub fn cell_clear_contents_with_style(
-        &mut self,
-        row: i32,
-        column: i32,
-        style: &Shared<Style>,
-    ) -> Result<(), EditError>
-        ensures { Changes result self.old self.new (content_put self.old row column Empty style.now) }
-    {
-        self.put_content(row, column, Content::Empty, style)
+        let merges = self.merges.clone()?;
+        let formattings = self.formattings.clone()?;
+        Ok((merges, formattings))
     }
 }
 
@@ -463,20 +308,24 @@ impl Clone for Worksheet {
     ghost is_clone = { λ s r. r ≡ s };
 
     fn clone(&self) -> Result<Worksheet, AllocError> {
+        let name = self.name.clone()?;
+        let (cells, links) = self.copied_places()?;
+        let (rows, columns) = self.copied_lines()?;
+        let (merges, formattings) = self.copied_lists()?;
         Ok(Worksheet {
             id: self.id,
-            name: self.name.clone()?,
+            name,
             state: self.state,
             color: self.color,
             show_grid_lines: self.show_grid_lines,
             frozen_rows: self.frozen_rows,
             frozen_columns: self.frozen_columns,
-            cells: self.cells.clone()?,
-            links: self.links.clone()?,
-            rows: self.rows.clone()?,
-            columns: self.columns.clone()?,
-            merges: self.merges.clone()?,
-            formattings: self.formattings.clone()?,
+            cells,
+            links,
+            rows,
+            columns,
+            merges,
+            formattings,
         })
     }
 }

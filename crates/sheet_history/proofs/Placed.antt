@@ -19,7 +19,7 @@ use Rattle.format_rules.specs.laws.FittingLaws.{stands_inside}
 use Rattle.rule_edits.specs.declared.RuleChange.{RuleChange}
 use Rattle.rule_edits.specs.RuleChanges.{change_goes, comes_fitting, has_place, is_change, may_stand}
 use Rattle.rule_edits.specs.laws.Lists.{each_later}
-use Rattle.rule_lines.specs.Rules.{RulesLie}
+use Rattle.line_map.specs.Rules.{RulesLie}
 use Rattle.sheet_grid.specs.declared.Cell.{Cell}
 use Rattle.sheet_grid.specs.laws.FittingCells.{entry_fits_at}
 use Rattle.sheet_grid.specs.Sheet.{Sheet, with_cell}

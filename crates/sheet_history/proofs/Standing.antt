@@ -18,7 +18,7 @@ use Rattle.format_rules.specs.laws.FittingLaws.{stands_inside}
 use Rattle.line_edits.specs.declared.EditKind.{EditKind}
 use Rattle.line_routes.specs.Merges.{MergesLie}
 use Rattle.rule_edits.specs.RuleChanges as rule_changes
-use Rattle.rule_lines.specs.Canonical.{KeptLie}
+use Rattle.line_map.specs.Canonical.{KeptLie}
 use Rattle.sheet_grid.specs.declared.Cell.{Cell}
 use Rattle.sheet_grid.specs.Book.{Book}
 use Rattle.sheet_grid.specs.Sheet.{Sheet}

@@ -28,7 +28,7 @@ use Rattle.sheet_lines.specs.Followed.{book_followed}
 use Rattle.sheet_lines.specs.Back.{book_back}
 use Rattle.book_sheets.specs.SheetDiffs.{lies_inside, cells_fit}
 use Rattle.rule_edits.specs.RuleChanges as rule_changes
-use Rattle.rule_lines.specs.Rules.{are_there}
+use Rattle.line_map.specs.Rules.{are_there}
 use Rattle.book_names.specs.RenameDiffs.{formulas_stand, stand_on_places}
 use Rattle.sheet_history.specs.declared.diff.LineAxis.{LineAxis}
 use Rattle.sheet_history.specs.declared.diff.LineAxis.TheVariants.{Rows, Columns}

@@ -1,8 +1,8 @@
-ghost use Rattle.std.specs.Prelude.{◌≡◌, ◌∷◌, [], length, IsOk, IsTrue, true, OnOk, OnErr, IfSome, IsOkUnless, MatchOption, Ok};
+ghost use Rattle.std.specs.Prelude.{◌≡◌, ◌∷◌, [], length, IsOk, IsTrue, true, OnOk, OnErr, IfOk, IfSome, IsOkUnless, MatchOption, Ok};
 ghost use Rattle.base_values.specs.Answers.{Changes};
 ghost use Rattle.base_values.specs.declared.EditError.TheVariants.{NoMemory};
 ghost use Rattle.sheet_history.specs.Diffs.{IsCanonicalList};
-ghost use Rattle.sheet_history.specs.Stacks.{empty_stacks, pushed, undone, redone};
+ghost use Rattle.sheet_history.specs.Stacks.{empty_stacks, moved_from, pushed, undone, redone};
 
 use crate::diff::DiffList;
 use base_values::{EditError, Exact};
@@ -102,36 +102,42 @@ impl History {
         self.redo.last()
     }
 
-    /// Moves the newest list to undo, if there is one, to the redo stack. `NoMemory` leaves the
-    /// history as it was.
-    pub fn undo(&mut self) -> Result<(), EditError>
-        ensures next { Changes result self.old self.new (Ok (undone self.old)) }
+    /// Moves the newest list to undo to the redo stack. It answers `None` exactly where there is no such
+    /// list. `NoMemory` leaves the history as it was.
+    pub fn undo(&mut self) -> Result<Option<()>, EditError>
+        ensures next { OnOk result (self.new ≡ undone self.old) }
+        ensures moved { IfOk result (λ moved. moved ≡ moved_from self.old.undo) }
+        ensures err { OnErr result (self.new ≡ self.old) }
+        ensures only { IsOkUnless result NoMemory }
         ensures sure { IsTrue self.old.has_room → IsOk result }
     {
         self.redo.reserve(1)?;
         let Some(list) = self.undo.pop() else {
-            return Ok(());
+            return Ok(None);
         };
         self.has_room = false;
         match self.redo.push(list) {
-            Ok(()) => Ok(()),
+            Ok(()) => Ok(Some(())),
             Err(_) => unreachable!(),
         }
     }
 
-    /// Moves the newest list to redo, if there is one, to the undo stack. `NoMemory` leaves the
-    /// history as it was.
-    pub fn redo(&mut self) -> Result<(), EditError>
-        ensures next { Changes result self.old self.new (Ok (redone self.old)) }
+    /// Moves the newest list to redo to the undo stack. It answers `None` exactly where there is no such
+    /// list. `NoMemory` leaves the history as it was.
+    pub fn redo(&mut self) -> Result<Option<()>, EditError>
+        ensures next { OnOk result (self.new ≡ redone self.old) }
+        ensures moved { IfOk result (λ moved. moved ≡ moved_from self.old.redo) }
+        ensures err { OnErr result (self.new ≡ self.old) }
+        ensures only { IsOkUnless result NoMemory }
         ensures sure { IsTrue self.old.has_room → IsOk result }
     {
         self.undo.reserve(1)?;
         let Some(list) = self.redo.pop() else {
-            return Ok(());
+            return Ok(None);
         };
         self.has_room = false;
         match self.undo.push(list) {
-            Ok(()) => Ok(()),
+            Ok(()) => Ok(Some(())),
             Err(_) => unreachable!(),
         }
     }

@@ -12,7 +12,7 @@ ghost use Rattle.sheet_lines.specs.Back.{AreCanonicalLines, ArePlacedLines, LieI
 ghost use Rattle.sheet_ids.specs.Ids.{sheet_of};
 ghost use Rattle.sheet_lines.specs.Sheets.{IsPlacedBook};
 ghost use Rattle.book_sheets.specs.SheetDiffs.{cells_fit};
-ghost use Rattle.rule_lines.specs.Canonical.{KeptLie};
+ghost use Rattle.line_map.specs.Canonical.{KeptLie};
 ghost use Rattle.sheet_history.specs.LineDiffs.{is_pushed_past, stays_inside, is_there_inside, is_lost_place, is_lost_line, all_keys};
 ghost use Rattle.sheet_history.specs.LineDiffs.{stand_on_lost, lie_inside, merges_inside, parts_inside, each_stands, formattings_stand, may_stand};
 ghost use Rattle.sheet_history.specs.LineDiffs.{goes_forward, goes_back, lines_forward, lines_back};
@@ -25,8 +25,7 @@ use book_names::{FormulaPlace, formulas_stand, stand_on_places};
 use book_sheets::{arrays_lie_inside, each_fits, merges_lie_inside};
 use format_rules::{ConditionalFormatting, has_fitting_trees, has_parts};
 use line_edits::place_image;
-use line_map::{EditKind, LineEdit};
-use rule_lines::are_there;
+use line_map::{EditKind, LineEdit, are_there};
 use sheet_grid::{Cell, Workbook, Worksheet};
 use sheet_ids::sheet_of;
 use sheet_lines::{KeptLines, followed_book, line_back};

@@ -95,8 +95,8 @@ fn put_field_in(sheet: &mut Worksheet, value: SheetField)
         SheetField::State(state) => sheet.set_state(state),
         SheetField::Color(color) => sheet.set_color(&color),
         SheetField::GridLines(drawn) => sheet.set_show_grid_lines(drawn),
-        SheetField::FrozenRows(count) => sheet.set_frozen_rows(count),
-        SheetField::FrozenColumns(count) => sheet.set_frozen_columns(count),
+        SheetField::FrozenRows(count) => sheet.put_frozen(count, sheet.frozen_columns()),
+        SheetField::FrozenColumns(count) => sheet.put_frozen(sheet.frozen_rows(), count),
     }
 }
 

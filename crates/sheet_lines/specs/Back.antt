@@ -11,7 +11,7 @@ use Rattle.line_map.specs.Contents.{cell_carried, cell_restored}
 use Rattle.line_map.specs.Maps.{lost_along, places_restored, KeysInside}
 use Rattle.line_routes.specs.Merges.{MergesLie}
 use Rattle.line_routes.specs.Way.{Way, back}
-use Rattle.rule_lines.specs.Canonical.{AreCanonicalKept, KeptLie}
+use Rattle.line_map.specs.Canonical.{AreCanonicalKept, KeptLie}
 use Rattle.formula_tree.specs.declared.Node.{Node}
 use Rattle.formula_tree.specs.Numbers.{has_canonical_numbers}
 use Rattle.formula_tree.specs.Placed.{is_placed}

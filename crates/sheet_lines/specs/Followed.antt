@@ -18,7 +18,6 @@ edited_way a m id edited = record {
   along = a;
   moves = m;
   sheet = id;
-  own = edited;
   edited = edited;
   is_edited = true;
   from = record { row = pos 1; column = pos 1 };
@@ -27,7 +26,7 @@ edited_way a m id edited = record {
 
 -- how what meets the edited sheet so meets another one
 abbrev pub way_on : Way → Sheet → Way
-way_on w sheet = on w sheet.id sheet.name
+way_on w sheet = on w sheet.id
 
 -- how a map on the lines of the sheet of an id, which has that name, meets a sheet
 abbrev pub way_of : Along → LineMoves → ℕ → List ℕ → Sheet → Way

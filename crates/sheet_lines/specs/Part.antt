@@ -7,7 +7,7 @@ use Rattle.base_maps.specs.Carried.{settled}
 use Rattle.format_rules.specs.declared.ConditionalFormatting.{ConditionalFormatting}
 use Rattle.line_routes.specs.Merges.{merges_carried}
 use Rattle.line_routes.specs.Way.{Way, IsWay, back}
-use Rattle.rule_lines.specs.Rules.{rules_restored}
+use Rattle.line_map.specs.Rules.{rules_restored}
 use Rattle.sheet_grid.specs.declared.SheetEntries.{SheetEntries}
 use Rattle.sheet_grid.specs.Sheet.{Sheet}
 use Rattle.sheet_lines.specs.declared.kept.KeptLines.{KeptLines}

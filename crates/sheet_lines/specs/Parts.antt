@@ -12,7 +12,7 @@ use Rattle.line_map.specs.Attributes.{lines_carried, lines_restored}
 use Rattle.line_map.specs.Maps.{lost_along, places_carried}
 use Rattle.line_routes.specs.Merges.{merges_carried, merges_part}
 use Rattle.line_routes.specs.Way.{Way, back, place_goes}
-use Rattle.rule_lines.specs.Rules.{rules_carried, rules_kept}
+use Rattle.line_map.specs.Rules.{rules_carried, rules_kept}
 use Rattle.sheet_grid.specs.declared.Cell.{Cell}
 use Rattle.sheet_grid.specs.declared.LineAttr.{LineAttr}
 use Rattle.sheet_grid.specs.declared.Link.{Link}

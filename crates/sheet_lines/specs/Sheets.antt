@@ -6,7 +6,7 @@ use Rattle.base_values.specs.declared.Position.{Position}
 use Rattle.formula_tree.specs.Placed.{is_placed}
 use Rattle.cell_content.specs.Lens.{tree_of}
 use Rattle.line_routes.specs.Merges.{MergesLie}
-use Rattle.rule_lines.specs.Rules.{RulesLie}
+use Rattle.line_map.specs.Rules.{RulesLie}
 use Rattle.sheet_grid.specs.declared.Cell.{Cell}
 use Rattle.sheet_grid.specs.Sheet.{Sheet}
 use Rattle.sheet_grid.specs.Book.{Book}

@@ -7,7 +7,7 @@ ghost use Rattle.line_edits.specs.Moves.{edit_moves};
 ghost use Rattle.line_map.specs.Maps.{entry_lost};
 ghost use Rattle.line_routes.specs.Merges.{merges_part};
 ghost use Rattle.line_routes.specs.Way.{place_goes};
-ghost use Rattle.rule_lines.specs.Rules.{rules_kept, KeepsRule};
+ghost use Rattle.line_map.specs.Rules.{rules_kept, KeepsRule};
 ghost use Rattle.sheet_grid.specs.Sheet.{Sheet};
 ghost use Rattle.sheet_lines.specs.Back.{book_back};
 ghost use Rattle.sheet_lines.specs.Entries.{CarriesCells, CarriesLines, CarriesLinks, KeepsTree, OfEdited, line_lost};

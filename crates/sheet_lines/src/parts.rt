@@ -15,8 +15,10 @@ use crate::sheets::OnSheet;
 use base_axis::{Axis, AxisMap};
 use base_maps::NumberMap;
 use base_values::{EditError, copy_of};
-use line_map::{Follower, LineMap, carried_with_kept, goes_along, regained, restored_map};
-use rule_lines::{carried_rules, kept_rules, restored_rules};
+use line_map::{
+    Follower, LineMap, carried_rules, carried_with_kept, goes_along, kept_rules, regained,
+    restored_map, restored_rules,
+};
 use sheet_grid::{LineAttr, SheetEntries};
 
 /// The parts. A further one joins by its implementation and its place here and in the definition.

@@ -32,7 +32,7 @@ pub(crate) struct OnSheet<'s, A: Axis, M: LineMap<A>> {
     pub(crate) sheet: &'s Worksheet,
 }
 
-/// How what meets the edited sheet so meets a sheet.
+/// A sheet of the workbook, with the route that leads what stands on it along the edit.
 pub(crate) fn on_sheet<'s, 'a: 's, A: Axis, M: LineMap<A>>(
     alloc: Global,
     route: &Route<'a, A, M>,
@@ -42,7 +42,7 @@ pub(crate) fn on_sheet<'s, 'a: 's, A: Axis, M: LineMap<A>>(
     ensures way { way result.route ≡ way_on (way route.now) sheet.now }
     ensures is { IsWay (way result.route) }
 {
-    let route = route.on(sheet.get_sheet_id(), sheet.get_name());
+    let route = route.on(sheet.get_sheet_id());
     route.is_way(); // for the proof
     OnSheet {
         alloc,

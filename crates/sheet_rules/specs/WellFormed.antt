@@ -16,6 +16,7 @@ use Rattle.sheet_grid.specs.declared.Link.{Link}
 use Rattle.sheet_grid.specs.DefaultParts.{is_default}
 use Rattle.sheet_grid.specs.Lines.{is_plain, usual_width}
 use Rattle.sheet_grid.specs.Sheet.{Sheet}
+pub use Rattle.sheet_grid.specs.Sheet.{is_count}
 use Rattle.sheet_grid.specs.Book.{Book}
 pub use Rattle.sheet_grid.specs.Book.{ids_of, names_of}
 pub use Rattle.sheet_rules.specs.Distinct.{are_distinct}
@@ -51,10 +52,6 @@ is_size (Some size) = int_le (pos 0) size
 -- the font has at least size 1
 abbrev pub has_font : Style → Bool
 has_font style = int_le (pos 1) style.font.sz
-
--- a count of lines
-abbrev pub is_count : ℤ → ℤ → Bool
-is_count most count = int_le (pos 0) count && int_le count most
 
 -- a row's own style is none or not the default one
 abbrev pub is_row_style : Option Style → Bool

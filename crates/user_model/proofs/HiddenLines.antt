@@ -11,12 +11,12 @@ use Rattle.sheet_grid.specs.Book.{Book, sheet_at, with_sheet}
 use Rattle.sheet_views.specs.declared.View.{View}
 use Rattle.sheet_history.specs.declared.LineAxis.{LineAxis}
 use Rattle.sheet_history.specs.LineDiffs.{along_of}
-use Rattle.entry_records.specs.LineRecords.{lines_set}
+use Rattle.edit_plans.specs.LineRecords.{lines_set}
 use Rattle.edit_plans.specs.Edits.{changed}
 use Rattle.edit_plans.specs.Edits.Edit.{SetHidden}
 use Rattle.edit_plans.specs.LineEdits.{attrs_set}
 use Rattle.edit_plans.specs.ViewSteps.{line_shown, view_asked}
-use Rattle.user_model.specs.Views.{seen_by}
+use Rattle.open_book.specs.Views.{seen_by}
 
 pub hidden_lines : (index : ℕ) (axis : LineAxis) (first last : ℤ) (hidden : Bool) (w : Book) → IsOk (changed (SetHidden index axis first last hidden) w)
     → IsTrue (has_lines (along_of axis).last first last)

@@ -17,10 +17,10 @@ use Rattle.edit_plans.specs.Edits.{Edit, changed, is_silent}
 use Rattle.edit_plans.specs.Inputs.{input_place, input_put, with_input}
 use Rattle.edit_plans.specs.ArrayInputs.{array_area, array_put, free_area, with_array}
 use Rattle.edit_plans.specs.Links.{link_set}
-use Rattle.user_model.specs.Document.{Document}
-use Rattle.user_model.specs.Machine.{State, edit_of, edited}
+use Rattle.open_book.specs.Document.{Document}
+use Rattle.open_book.specs.Machine.{State, edit_of, edited}
 use Rattle.user_model.specs.Places.{array_goes, input_goes, link_goes}
-use Rattle.user_model.specs.Stands.{StandsFor, Moves, Turns}
+use Rattle.open_book.specs.Stands.{StandsFor, Moves, Turns}
 
 -- an edit of the sheet at an index that goes to a place, or to a rectangle, is refused where that is, and else accepted
 module _ {T : Type 0} (index : ℕ) (book : Book) (goes : Sheet → Result T EditError) (put : Sheet → T → Sheet) where

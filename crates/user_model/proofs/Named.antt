@@ -3,9 +3,9 @@ use Rattle.std.proofs.Common.{ℤ, Result, subst, to_z, of_z, w32, SFits}
 use Rattle.std.proofs.lemmas.Int.{to_z-of_z}
 use Rattle.base_values.specs.declared.EditError.{EditError}
 use Rattle.edit_plans.specs.Edits.{Edit}
-use Rattle.user_model.specs.Document.{Document}
-use Rattle.user_model.specs.Machine.{edit_of}
-use Rattle.user_model.specs.Stands.{Steps}
+use Rattle.open_book.specs.Document.{Document}
+use Rattle.open_book.specs.Machine.{edit_of}
+use Rattle.open_book.specs.Stands.{Steps}
 
 -- a step of an edit of a number is one of the number that was named
 pub as_one : {T : Type 0} (result : Result T EditError) (old new : Document) (edit : ℤ → Edit) (count : ℤ) → SFits w32 count

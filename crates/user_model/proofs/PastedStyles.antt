@@ -19,7 +19,7 @@ use Rattle.edit_plans.specs.Edits.{changed}
 use Rattle.edit_plans.specs.Edits.Edit.{PasteStyles}
 use Rattle.edit_plans.specs.RangeEdits.{is_tile, pasted_in, planned_in, styles_pasted, tiled_range}
 use Rattle.edit_plans.specs.ViewSteps.{view_asked}
-use Rattle.user_model.specs.Views.{seen_by_pasting}
+use Rattle.open_book.specs.Views.{seen_by_pasting}
 
 -- styles that were pasted lie inside the sheet
 pub pasted_inside : (index : ℕ) (r : MergedCell) (styles : List (List Style)) (w : Book) → IsOk (changed (PasteStyles index r styles) w) → is_inside r ≡ true

@@ -42,9 +42,9 @@ use Rattle.sheet_history.specs.Entries.EntryValue.{AttrValue}
 use Rattle.sheet_history.specs.Fields.{changed_field, new_of, old_of}
 use Rattle.sheet_history.specs.LineDiffs.{along_of, goes_forward, goes_back, lines_forward, lines_back}
 use Rattle.sheet_history.specs.Diffs.{put_in, step_forward, step_back, forward_from, back_from, by_rule, tested, follow, in_entry}
-use Rattle.user_model.specs.Document.{Document}
-use Rattle.user_model.specs.Machine.{State, go_on, outside, applied_from}
-use Rattle.user_model.specs.Stands.{Leaves}
+use Rattle.open_book.specs.Document.{Document}
+use Rattle.open_book.specs.Machine.{State, go_on, outside, applied_from}
+use Rattle.open_book.specs.Stands.{Leaves}
 
 abbrev IsOfDiff : EditError → Type 0
 IsOfDiff (DiffRefused entry diff) = Unit {0}

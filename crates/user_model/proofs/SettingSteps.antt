@@ -4,11 +4,11 @@ use Rattle.base_values.specs.declared.EditError.{EditError}
 use Rattle.base_values.specs.declared.EditError.TheVariants.{NoMemory}
 use Rattle.base_values.specs.Answers.{and_then, ok_or}
 use Rattle.base_tables.specs.declared.Language.{Language}
-use Rattle.user_model.specs.Document.{Document}
-use Rattle.user_model.specs.Machine.{State, speaking_in}
-use Rattle.user_model.specs.Sound.{IsSound}
-use Rattle.user_model.specs.Stands.{IsReached, Moves, StandsFor}
-use Rattle.user_model.specs.Values.{Session, speaking}
+use Rattle.open_book.specs.Document.{Document}
+use Rattle.open_book.specs.Machine.{State, speaking_in}
+use Rattle.open_book.specs.Sound.{IsSound}
+use Rattle.open_book.specs.Stands.{IsReached, Moves, StandsFor}
+use Rattle.open_book.specs.Values.{Session, speaking}
 
 -- ---- look-ups
 

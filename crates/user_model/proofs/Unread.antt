@@ -7,10 +7,10 @@ use Rattle.sheet_grid.specs.Book.{Book}
 use Rattle.sheet_grid.specs.Computed.{Values}
 use Rattle.sheet_history.specs.declared.QueueDiffs.{QueueDiffs}
 use Rattle.sheet_wire.specs.QueueBytes.{IsNoQueue}
-use Rattle.user_model.specs.Document.{Document}
-use Rattle.user_model.specs.Machine.{State, applied}
-use Rattle.user_model.specs.Stands.{StandsFor, IsReached, Leaves}
-use Rattle.user_model.specs.Values.{Session, LeavesMade}
+use Rattle.open_book.specs.Document.{Document}
+use Rattle.open_book.specs.Machine.{State, applied}
+use Rattle.open_book.specs.Stands.{StandsFor, IsReached, Leaves}
+use Rattle.open_book.specs.Values.{Session, LeavesMade}
 
 only_memory : (error : EditError) → ((error ≢ NoMemory) → ⊥) → error ≡ NoMemory
 only_memory NoMemory h = refl

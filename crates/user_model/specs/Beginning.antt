@@ -7,7 +7,7 @@ use Rattle.base_tables.specs.Language.{language_of_name}
 use Rattle.base_tables.specs.Locale.{locale_of_name}
 use Rattle.base_tables.specs.Zone.{zone_of_name}
 use Rattle.sheet_grid.specs.Book.{new_book}
-use Rattle.user_model.specs.Machine.{State, begun}
+use Rattle.open_book.specs.Machine.{State, begun}
 
 -- a workbook of a name with one empty sheet, or the first refusal: no locale, no zone, no language has that name
 abbrev pub new_state : List ℕ → List ℕ → List ℕ → List ℕ → Result State EditError

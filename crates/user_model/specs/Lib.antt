@@ -1,15 +1,4 @@
-pub mod Far
-pub mod Spellable
-pub mod Views
 pub mod Properties
-pub mod Machine
-pub mod Document
-pub mod Values
-pub mod Sound
-pub mod BothWays
-pub mod Opened
-pub mod Stands
-pub mod Untested
 pub mod Beginning
 pub mod Places
 pub mod Reading

@@ -16,7 +16,7 @@ use Rattle.base_tables.specs.Locale.{locale_of_name}
 use Rattle.base_tables.specs.Zone.{zone_of_name}
 use Rattle.sheet_history.specs.declared.Setting.TheVariants as value
 use Rattle.edit_plans.specs.Edits.Edit.{SetSetting}
-use Rattle.user_model.specs.Machine.{State, edit_of, speaking_in}
+use Rattle.open_book.specs.Machine.{State, edit_of, speaking_in}
 
 -- ---- names
 

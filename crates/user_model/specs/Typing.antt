@@ -12,7 +12,7 @@ use Rattle.name_edits.specs.NameEdits.NameEdit.{Add, Update}
 use Rattle.edit_plans.specs.Edits.Edit.{Input, ArrayInput, ChangeNames, Fill}
 use Rattle.line_sizes.specs.Heights.{line_feeds}
 use Rattle.sheet_history.specs.declared.LineAxis.{LineAxis}
-use Rattle.user_model.specs.Machine.{State, edit_of}
+use Rattle.open_book.specs.Machine.{State, edit_of}
 use Rattle.user_model.specs.Places.{rule_goes}
 use Rattle.user_model.specs.Reading.{typed, formula_at, formula_typed}
 

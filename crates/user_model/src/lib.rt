@@ -7,23 +7,32 @@
 
 mod cell_style;
 mod cell_type;
-mod install;
-mod laws;
-mod open_book;
 mod properties;
 mod reading;
-mod recalc;
 mod structure;
 mod user_model;
 mod view_steps;
 
-pub use base_styles::{BorderArea, BorderType};
+pub use base_axis::{Area, MergedCell};
+pub use base_styles::{
+    Alignment, Border, BorderArea, BorderItem, BorderStyle, BorderType, Color, Font,
+    HorizontalAlignment, RgbColor, Style, Theme, ThemeColor, VerticalAlignment,
+};
+pub use base_values::{EditError, Items, Position, Text};
 pub use cell_type::CellType;
-pub use laws::edits_go_both_ways;
-pub use name_lists::ScopedName;
+pub use cell_wire::encode_style;
+pub use format_rules::{
+    CfOperator, CfRule, Cfvo, ColorThreshold, ConditionalFormatting, IconThreshold,
+};
+pub use name_lists::{DefinedNames, ScopedName};
+pub use open_book::{ClearAll, Recalc, edits_go_both_ways};
 pub use properties::SheetProperties;
-pub use recalc::{ClearAll, Recalc};
 pub use rule_wire::encode_rule;
+pub use sheet_actions::Model;
+pub use sheet_grid::{
+    Cell, Computed, ComputedValue, Content, Link, SheetState, Workbook, Worksheet,
+};
+pub use sheet_navigation::{Navigate, NavigationDirection, RowSearch};
 pub use sheet_views::{View, selected_sheet_after_move};
 pub use structure::CellArrayStructure;
 pub use user_model::UserModel;

@@ -18,10 +18,10 @@ ghost use Rattle.user_model.specs.Beginning.{new_state};
 ghost use Rattle.user_model.specs.Reading.{content_text, link_to, rectangle, rectangle_of};
 ghost use Rattle.user_model.specs.Typing.{array_typed, text_typed};
 ghost use Rattle.user_model.specs.Structure.{structure_at};
-ghost use Rattle.user_model.specs.Machine.{State, begun, edit_of, undo_of, redo_of, synced_of, sync_bytes};
-ghost use Rattle.user_model.specs.Sound.{CarriesOn, WhereCarried, WhereSpelled};
-ghost use Rattle.user_model.specs.Stands.{StandsFor, IsReached, IsAnyPlan, IsPlanOf, IsSeenPlan, IsAnySeenPlan, Leaves, Moves, OnStates, Opens, Steps, Turns};
-ghost use Rattle.user_model.specs.Values.{IsMade, LeavesMade, Makes, is_none_left};
+ghost use Rattle.open_book.specs.Machine.{State, begun, edit_of, undo_of, redo_of, synced_of, sync_bytes};
+ghost use Rattle.open_book.specs.Sound.{CarriesOn, WhereCarried, WhereSpelled};
+ghost use Rattle.open_book.specs.Stands.{StandsFor, IsReached, IsAnyPlan, IsPlanOf, IsSeenPlan, IsAnySeenPlan, Leaves, Moves, OnStates, Opens, Steps, Turns};
+ghost use Rattle.open_book.specs.Values.{IsMade, LeavesMade, Makes, is_none_left};
 
 mod attributes;
 mod cells;
@@ -34,12 +34,10 @@ mod settings;
 mod sheets;
 mod views;
 
-use crate::open_book::OpenBook;
 use crate::reading::{
     content_text, find_array_place, find_input_place, find_place, link_to, read_at, read_tree_at,
     rectangle, rectangle_of,
 };
-use crate::recalc::{Recalc, Results};
 use crate::structure::{CellArrayStructure, structure_at};
 use base_axis::{Area, MergedCell};
 use base_shared::Shared;
@@ -48,6 +46,7 @@ use base_values::{EditError, Items};
 use edit_plans::{plan_array, plan_input, plan_link, plan_merge, plan_unmerge};
 use formula_tree::Node;
 use line_sizes::line_feeds;
+use open_book::{OpenBook, Recalc, Results};
 use sheet_actions::Model as PlainModel;
 use sheet_grid::{Content, Link, Workbook};
 use sheet_history::DiffList;
@@ -82,14 +81,14 @@ impl<R> Model for UserModel<R> {
     ghost use Rattle.formula_tree.specs.contracts.node.Node as node;
     ghost use Rattle.sheet_grid.specs.contracts.workbook.Workbook as workbook;
     ghost use Rattle.sheet_history.specs.contracts.diff.Diff as diff;
-    ghost use Rattle.user_model.specs.Values.{Session};
+    ghost use Rattle.open_book.specs.Values.{Session};
 
     ghost Value = { Session };
 
     ghost coded = { Prim.hlevel (codes, coded_sheet_place, node.the_row.coded, workbook.the_row.coded, diff.the_row.coded, fin.code) };
 
-    ghost use Rattle.user_model.specs.Opened.{document_in, session_of};
-    ghost use Rattle.user_model.specs.Stands.{IsReached};
+    ghost use Rattle.open_book.specs.Opened.{document_in, session_of};
+    ghost use Rattle.open_book.specs.Stands.{IsReached};
 
     ghost view = { λ model. session_of model.book model.results };
 

@@ -8,13 +8,12 @@ ghost use Rattle.sheet_history.specs.LineDiffs.{along_of};
 ghost use Rattle.edit_plans.specs.Edits.Edit.{DeleteSheet, SetField};
 ghost use Rattle.edit_plans.specs.RangeEdits.{pasted_by};
 ghost use Rattle.edit_plans.specs.ViewSteps.{line_shown, selected_by};
-ghost use Rattle.user_model.specs.Views.{seen_by, seen_by_pasting, sheet_chosen};
+ghost use Rattle.open_book.specs.Views.{seen_by, seen_by_pasting, sheet_chosen};
 
 use base_axis::{ColumnAxis, MergedCell, RowAxis};
 use base_styles::Style;
 use base_values::EditError;
-use edit_plans::{pasted_area, range_by_hiding, selected_by_deletion, selected_by_field};
-use entry_records::axis_end;
+use edit_plans::{axis_end, pasted_area, range_by_hiding, selected_by_deletion, selected_by_field};
 use line_sizes::has_lines;
 use sheet_grid::Workbook;
 use sheet_history::{LineAxis, SheetField};

@@ -27,8 +27,8 @@ use Rattle.format_rules.specs.RuleTrees.{CfvoHas, HasTrees}
 use Rattle.format_rules.specs.laws.FittingLaws.{canonical_still}
 use Rattle.format_rules.specs.laws.RuleEquals.{formatting_equals}
 use Rattle.format_rules.specs.laws.RuleTreeLaws.{changed_have, each_still}
-use Rattle.rule_lines.specs.Canonical.{AreCanonicalKept}
-use Rattle.rule_lines.specs.Rules.{RulesLie}
+use Rattle.line_map.specs.Canonical.{AreCanonicalKept}
+use Rattle.line_map.specs.Rules.{RulesLie}
 use Rattle.base_maps.specs.laws.ByIndexLaws.{items_regained, kept_are, kept_within, restored_are}
 use Rattle.book_names.specs.Renaming.{formatting_renamed, formattings_renamed, formatting_kept, own_formattings_kept, formattings_back}
 use Rattle.book_names.specs.laws.Cells.{tree_fits as fits_still}

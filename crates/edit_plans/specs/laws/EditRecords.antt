@@ -22,8 +22,8 @@ use Rattle.sheet_history.specs.Entries.EntryKey.{CellKey, FieldKey, LinkKey, Mer
 use Rattle.sheet_history.specs.Entries.EntryValue.{CellValue, FieldValue, LinkValue, MergesValue}
 use Rattle.sheet_history.specs.Fields.{field_of, field_in}
 use Rattle.sheet_history.specs.Records.{entry_record}
-use Rattle.entry_records.specs.LineRecords.{attr_record}
-use Rattle.entry_records.specs.SheetPlans.{plan_diffs}
+use Rattle.edit_plans.specs.LineRecords.{attr_record}
+use Rattle.edit_plans.specs.SheetPlans.{plan_diffs}
 use Rattle.edit_plans.specs.Blanked.{blank_cell, loses}
 use Rattle.edit_plans.specs.Fills.{places_plan}
 use Rattle.edit_plans.specs.Inputs.{cell_entered, row_raised}

@@ -20,7 +20,7 @@ use Rattle.sheet_history.specs.laws.RuleLaws.{well_formed-field}
 use Rattle.edit_plans.specs.Plans.{IsPlan, Plans}
 use Rattle.edit_plans.specs.SheetEdits.{field_put, field_set}
 use Rattle.edit_plans.specs.laws.EditRecords.{field_change}
-use Rattle.entry_records.specs.laws.AtIndex.{there, changed_at, put_changed}
+use Rattle.edit_plans.specs.laws.AtIndex.{there, changed_at, put_changed}
 use Rattle.edit_plans.specs.laws.PlanLaws.{plan_refused, plan_made, no_sheet, sheet_refuses, sheet_takes, sheet_sure}
 
 -- a sheet takes a value that it may have

@@ -24,7 +24,7 @@ use Rattle.sheet_rules.specs.WellFormed.{IsWellFormed}
 use Rattle.sheet_rules.specs.laws.EntryLaws.{both}
 use Rattle.sheet_rules.specs.laws.OccupiedLaws.{keeps_merges}
 use Rattle.sheet_ids.specs.Ids.{sheet_of}
-use Rattle.book_laws.specs.laws.ListTests.{all_others}
+use Rattle.book_sheets.specs.laws.ListTests.{all_others}
 use Rattle.sheet_history.specs.declared.Diff.{Diff}
 use Rattle.sheet_history.specs.declared.LineAxis.{LineAxis}
 use Rattle.sheet_history.specs.declared.LineAxis.TheVariants.{Rows, Columns}
@@ -37,10 +37,10 @@ use Rattle.sheet_history.specs.Records.{IsRecord}
 use Rattle.sheet_history.specs.laws.EntryLaws.{found-changed}
 use Rattle.sheet_history.specs.laws.LineRecords.{along_lawful}
 use Rattle.sheet_history.specs.laws.RuleLaws.{KeepsSheetRules}
-use Rattle.entry_records.specs.SheetPlans.{attr_diffs, cell_diffs, link_diffs, plan_diffs, with_plan}
-use Rattle.entry_records.specs.laws.Appended.{come_before, come_before-append, put_after}
-use Rattle.entry_records.specs.laws.AtIndex.{changed_at, changed_twice, keeps, put_changed, there}
-use Rattle.entry_records.specs.laws.PlanRecords.{PlanFits, cell_kind, column_kind, diffs_before, link_kind, plan_exact, row_kind}
+use Rattle.edit_plans.specs.SheetPlans.{attr_diffs, cell_diffs, link_diffs, plan_diffs, with_plan}
+use Rattle.edit_plans.specs.laws.Appended.{come_before, come_before-append, put_after}
+use Rattle.edit_plans.specs.laws.AtIndex.{changed_at, changed_twice, keeps, put_changed, there}
+use Rattle.edit_plans.specs.laws.PlanRecords.{PlanFits, cell_kind, column_kind, diffs_before, link_kind, plan_exact, row_kind}
 use Rattle.edit_plans.specs.Fills.{fill_made, places_plan, with_fill}
 use Rattle.edit_plans.specs.laws.EditRecords.{fill_record}
 use Rattle.edit_plans.specs.Plans.{IsPlan, Plans}

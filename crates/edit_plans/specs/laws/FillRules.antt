@@ -49,9 +49,9 @@ use Rattle.sheet_fill.specs.laws.RangedFills.{IsBeside, IsFree}
 use Rattle.sheet_fill.specs.laws.TileLaws.{begins_back, held_back, held_wider, meets_shifted, meets_wider, repeated_apart, within_inside}
 use Rattle.sheet_history.specs.laws.Entries.{all_entries, entry_holds}
 use Rattle.sheet_history.specs.laws.RuleLaws.{KeepsSheetRules}
-use Rattle.book_laws.specs.laws.ListTests.{distinct_joined, distinct_left}
+use Rattle.book_sheets.specs.laws.ListTests.{distinct_joined, distinct_left}
 use Rattle.sheet_history.specs.Entries.{cell_stands_at, lies_inside}
-use Rattle.entry_records.specs.laws.PlanRecords.{PlanFits}
+use Rattle.edit_plans.specs.laws.PlanRecords.{PlanFits}
 use Rattle.edit_plans.specs.Fills.{places_plan, with_fill}
 use Rattle.edit_plans.specs.laws.FilledContents.{content_fits, content_no_array, content_shown}
 use Rattle.edit_plans.specs.laws.Fonts.{shown_font}

@@ -44,9 +44,9 @@ use Rattle.line_sizes.specs.Heights.{needed_height}
 use Rattle.edit_plans.specs.Plans.{IsPlan, Plans}
 use Rattle.edit_plans.specs.Inputs.{IsInput, new_cell, entered, cell_entered, with_input, with_row, row_raised, free_place, input_place, input_put}
 use Rattle.edit_plans.specs.laws.EditRecords.{cell_record, height_record, input_record, link_change}
-use Rattle.entry_records.specs.laws.Appended.{come_before, come_before-append, put_after}
-use Rattle.entry_records.specs.laws.AtIndex.{there, keeps, changed_at, changed_twice, put_changed, put_twice, sheet_of-put}
-use Rattle.entry_records.specs.laws.AttrRules.{attr-put, line_own, needed_size, own_entry, own_kept, raised_own}
+use Rattle.edit_plans.specs.laws.Appended.{come_before, come_before-append, put_after}
+use Rattle.edit_plans.specs.laws.AtIndex.{there, keeps, changed_at, changed_twice, put_changed, put_twice, sheet_of-put}
+use Rattle.edit_plans.specs.laws.AttrRules.{attr-put, line_own, needed_size, own_entry, own_kept, raised_own}
 use Rattle.edit_plans.specs.laws.Fonts.{place_inside, shown_font}
 use Rattle.edit_plans.specs.laws.PlanLaws.{plan_refused, plan_made, no_sheet, sheet_refuses, sheet_takes, sheet_sure, place_sure, place_again}
 

@@ -14,8 +14,8 @@ use Rattle.sheet_history.specs.declared.LineAxis.{LineAxis}
 use Rattle.sheet_history.specs.LineDiffs.{along_of}
 use Rattle.sheet_history.specs.Diffs.{IsCanonicalList}
 use Rattle.sheet_history.specs.Records.{IsRecord}
-use Rattle.entry_records.specs.LineRecords.{change_fits, line_diffs, lines_of, lines_set}
-use Rattle.entry_records.specs.laws.LineRecordLaws.{attrs_exact, attrs_well_formed, lines_inside}
+use Rattle.edit_plans.specs.LineRecords.{change_fits, line_diffs, lines_of, lines_set}
+use Rattle.edit_plans.specs.laws.LineRecordLaws.{attrs_exact, attrs_well_formed, lines_inside}
 use Rattle.edit_plans.specs.Plans.{IsPlan, Plans}
 use Rattle.edit_plans.specs.LineEdits.{attrs_in, attrs_set}
 use Rattle.edit_plans.specs.laws.PlanLaws.{plan_refused, plan_made, no_sheet, sheet_refuses, sheet_takes, sheet_sure}

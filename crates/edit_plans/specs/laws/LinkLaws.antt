@@ -22,7 +22,7 @@ use Rattle.sheet_history.specs.laws.RuleLaws.{well_formed-link}
 use Rattle.edit_plans.specs.Plans.{IsPlan, Plans}
 use Rattle.edit_plans.specs.Links.{link_set}
 use Rattle.edit_plans.specs.laws.EditRecords.{link_change}
-use Rattle.entry_records.specs.laws.AtIndex.{there, changed_at, put_changed}
+use Rattle.edit_plans.specs.laws.AtIndex.{there, changed_at, put_changed}
 use Rattle.edit_plans.specs.laws.Fonts.{place_inside}
 use Rattle.edit_plans.specs.laws.PlanLaws.{plan_refused, plan_made, no_sheet, sheet_refuses, sheet_takes, sheet_sure, place_sure}
 

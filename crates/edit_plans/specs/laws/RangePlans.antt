@@ -34,11 +34,11 @@ use Rattle.sheet_history.specs.Entries.{cell_stands_at, lies_inside}
 use Rattle.sheet_history.specs.Records.{IsRecord}
 use Rattle.sheet_history.specs.laws.Entries.{all_entries}
 use Rattle.sheet_history.specs.laws.RuleLaws.{KeepsSheetRules}
-use Rattle.entry_records.specs.SheetPlans.{plan_diffs, with_plan}
-use Rattle.entry_records.specs.laws.AtIndex.{keeps, there}
-use Rattle.entry_records.specs.laws.AttrRules.{own_kept}
-use Rattle.entry_records.specs.laws.PlanRecords.{PlanFits, plan_exact}
-use Rattle.entry_records.specs.laws.PlanRules.{IsLeft, PlanKeeps, plan_keeps}
+use Rattle.edit_plans.specs.SheetPlans.{plan_diffs, with_plan}
+use Rattle.edit_plans.specs.laws.AtIndex.{keeps, there}
+use Rattle.edit_plans.specs.laws.AttrRules.{own_kept}
+use Rattle.edit_plans.specs.laws.PlanRecords.{PlanFits, plan_exact}
+use Rattle.edit_plans.specs.laws.PlanRules.{IsLeft, PlanKeeps, plan_keeps}
 use Rattle.edit_plans.specs.Plans.{IsPlan, Plans}
 use Rattle.edit_plans.specs.laws.PlanLaws.{plan_made, sheet_takes}
 use Rattle.edit_plans.specs.laws.SheetRecords.{sheet_keeps}

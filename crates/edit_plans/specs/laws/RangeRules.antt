@@ -36,8 +36,8 @@ use Rattle.range_styles.specs.laws.RangeLaws.{get-lines_styled, styled_here}
 use Rattle.sheet_history.specs.declared.LineAxis.{LineAxis}
 use Rattle.sheet_history.specs.declared.LineAxis.TheVariants.{Rows, Columns}
 use Rattle.sheet_history.specs.laws.RuleLaws.{KeepsSheetRules}
-use Rattle.entry_records.specs.laws.AttrRules.{column_own, entry_size, entry_style, own_entry, own_size, own_style, row_own}
-use Rattle.entry_records.specs.laws.PlanRules.{IsLeftCell, PlanKeeps}
+use Rattle.edit_plans.specs.laws.AttrRules.{column_own, entry_size, entry_style, own_entry, own_size, own_style, row_own}
+use Rattle.edit_plans.specs.laws.PlanRules.{IsLeftCell, PlanKeeps}
 use Rattle.edit_plans.specs.laws.Fonts.{shown_font}
 
 -- fonts keep a size of 1 or more

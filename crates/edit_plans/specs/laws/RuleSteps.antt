@@ -32,7 +32,7 @@ use Rattle.sheet_history.specs.laws.EntryLaws.{by_id, decide, found-changed, map
 use Rattle.sheet_history.specs.laws.RuleDiffLaws.{rule_made, rule_unmade}
 use Rattle.sheet_history.specs.laws.StandingRules.{sheet_rules_stand}
 use Rattle.sheet_history.specs.laws.TestedLaws.{by_rule-kept}
-use Rattle.entry_records.specs.laws.AtIndex.{changed_at, changed_same, changed_twice, keeps, there}
+use Rattle.edit_plans.specs.laws.AtIndex.{changed_at, changed_same, changed_twice, keeps, there}
 use Rattle.edit_plans.specs.Edits.Edit.{EditRules}
 use Rattle.edit_plans.specs.Plans.{GoesBothWays}
 use Rattle.edit_plans.specs.RuleEdits.{all_diffs, diffs_of, rules_edited, rules_in, rules_record, with_changes}

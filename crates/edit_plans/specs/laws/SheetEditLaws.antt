@@ -34,10 +34,10 @@ use Rattle.name_edits.specs.laws.BothWays.{name_both_ways}
 use Rattle.name_edits.specs.laws.LaterRules.{edited, later_well_formed}
 use Rattle.edit_plans.specs.NamedEdits.{names_edited, name_diff}
 use Rattle.edit_plans.specs.laws.RuleSteps.{rules_go}
-use Rattle.book_laws.specs.Ways.{LeadsBothWays}
-use Rattle.book_laws.specs.laws.BothWays.{new_both_ways, copy_both_ways, deletion_both_ways, move_both_ways}
-use Rattle.book_laws.specs.laws.LaterRules.{free_above, new_well_formed, copy_well_formed, deletion_well_formed, move_well_formed}
-use Rattle.book_laws.specs.laws.SheetDiffLaws.{found_at}
+use Rattle.book_sheets.specs.Ways.{LeadsBothWays}
+use Rattle.book_sheets.specs.laws.BothWays.{new_both_ways, copy_both_ways, deletion_both_ways, move_both_ways}
+use Rattle.book_sheets.specs.laws.LaterRules.{free_above, new_well_formed, copy_well_formed, deletion_well_formed, move_well_formed}
+use Rattle.book_sheets.specs.laws.SheetDiffLaws.{found_at}
 use Rattle.sheet_history.specs.declared.Diff.{Diff}
 use Rattle.sheet_history.specs.Diffs.{step_forward, step_back, by_rule, tested, book_after, book_before}
 use Rattle.sheet_history.specs.declared.Diff.TheVariants.{Setting as SettingDiff}

@@ -18,7 +18,7 @@ use Rattle.sheet_history.specs.laws.SettingLaws.{setting_in-with_sheets}
 use Rattle.sheet_history.specs.laws.OneEntry.{changed_entry-same}
 use Rattle.sheet_history.specs.laws.PutLaws.{entry_at-found}
 use Rattle.sheet_history.specs.laws.RuleLaws.{KeepsSheetRules, well_formed-changed}
-use Rattle.entry_records.specs.laws.AtIndex.{there, changed_at}
+use Rattle.edit_plans.specs.laws.AtIndex.{there, changed_at}
 
 -- some changes are those of the entries of a sheet, in the order of their keys
 pub record IsSheetRecord (change : Sheet → Sheet) (sheet : Sheet) (changes : List Change) : Type 0 where

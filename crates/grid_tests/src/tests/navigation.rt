@@ -46,7 +46,7 @@ const FILLED: [(i32, i32); 20] = [
 
 fn fill(sheet: &mut Worksheet, style: &Shared<Style>) -> Result<(), EditError> {
     for (row, column) in FILLED {
-        sheet.set_cell_with_boolean(row, column, true, style)?;
+        sheet.set_cell_with_boolean(row, column, true, style.get())?;
     }
     Ok(())
 }

@@ -235,7 +235,7 @@ fn put_font(alloc: Global, sheet: &mut Worksheet, size: i32) -> Result<(), EditE
 fn put_formula(sheet: &mut Worksheet, row: i32, plain: &Shared<Style>) -> Result<(), EditError> {
     let tree = below(row);
     if has_canonical_numbers(&tree) {
-        sheet.set_cell_with_formula(1, 1, tree, plain)?;
+        sheet.set_cell_with_formula(1, 1, tree, plain.get())?;
     }
     Ok(())
 }
@@ -251,7 +251,7 @@ fn put_array(
             array.row,
             array.column,
             tree,
-            plain,
+            plain.get(),
             array.width,
             array.height,
         )?;
@@ -294,8 +294,8 @@ fn put_on_sheet(
         Piece::Array(row, column, width, height) => {
             put_array(sheet, rectangle(row, column, width, height), plain)
         }
-        Piece::Content(row, column) => sheet.set_cell_with_boolean(row, column, true, plain),
-        Piece::Style(row, column) => sheet.cell_clear_contents_with_style(row, column, plain),
+        Piece::Content(row, column) => sheet.set_cell_with_boolean(row, column, true, plain.get()),
+        Piece::Style(row, column) => sheet.cell_clear_contents_with_style(row, column, plain.get()),
         Piece::Rule(columns, rows) => {
             sheet.set_conditional_formatting(rules_on(alloc, columns, rows)?);
             Ok(())

@@ -1,5 +1,4 @@
 // Styles of cells, rows and columns, by the calls of a sheet.
-use base_shared::Shared;
 use base_styles::Style;
 use base_values::EditError;
 use sheet_grid::{DefaultStyle, Worksheet};
@@ -108,21 +107,21 @@ const CASES: [(&[Step], &[Sight]); 6] = [
 ];
 
 /// The default style in bold, or in italics.
-fn drawn(alloc: Global, is_bold: bool) -> Result<Shared<Style>, EditError> {
+fn drawn(alloc: Global, is_bold: bool) -> Result<Style, EditError> {
     let mut style = Style::new(alloc)?;
     style.font.b = is_bold;
     style.font.i = !is_bold;
-    Ok(Shared::new(alloc, style)?)
+    Ok(style)
 }
 
 fn put_value(alloc: Global, sheet: &mut Worksheet, row: i32, column: i32) -> Result<(), EditError> {
     let plain = DefaultStyle::new(alloc)?;
-    sheet.set_cell_with_boolean(row, column, true, plain.shared())
+    sheet.set_cell_with_boolean(row, column, true, plain.shared().get())
 }
 
 fn set_default_row(alloc: Global, sheet: &mut Worksheet, row: i32) -> Result<(), EditError> {
     let plain = DefaultStyle::new(alloc)?;
-    sheet.set_row_style(row, plain.shared())
+    sheet.set_row_style(row, plain.shared().get())
 }
 
 fn take(alloc: Global, sheet: &mut Worksheet, step: Step) -> Result<(), EditError> {

@@ -1,6 +1,6 @@
 use Rattle.std.proofs.Common.{refl}
 use Rattle.line_routes.specs.Way.{way}
-use Rattle.line_laws.proofs.RangeImages.{edit_holds_images, goes_by_nodes}
+use Rattle.line_laws.specs.laws.RangeImages.{edit_holds_images, goes_by_nodes}
 use Rattle.line_laws.proofs.ranges_hold_images.Goals as goal
 
 pub returns-clause-ranges : goal.returns-clause-ranges

@@ -1,43 +1,36 @@
 -- An edit and its opposite give a formula back exactly where it has not to be kept.
-use Rattle.std.proofs.Common.{◌≡◌, Bool, true, false, Option, Some, None, refl, ap, sym, ◌∙◌}
-use Rattle.std.specs.Prelude.{not, is_some, if◌then◌else◌}
+use Rattle.std.proofs.Common.{◌≡◌, true, Option, Some, None, refl, ap, sym, ◌∙◌}
+use Rattle.std.specs.Prelude.{not, is_some, is_none, if◌then◌else◌}
 use Rattle.std.specs.Bool.{Decides}
 use Rattle.std.proofs.lemmas.Bool.Decides.{Decides-like}
 use Rattle.base_values.specs.declared.Position.{Position}
-use Rattle.base_tables.specs.Folding.{same_folded}
 use Rattle.base_axis.specs.Along.{Along, IsAxis}
 use Rattle.line_edits.specs.declared.EditKind.{EditKind}
 use Rattle.line_edits.specs.Edit.{IsValid, opposite_of}
-use Rattle.line_edits.specs.Moves.{place_image}
-use Rattle.line_edits.specs.laws.PlaceLaws.{image_inverse}
 use Rattle.line_routes.specs.declared.tree_at.TreeAt.{TreeAt}
 use Rattle.line_routes.specs.EditWay.{edit_way}
 use Rattle.formula_tree.specs.declared.Node.{Node}
 use Rattle.line_routes.specs.contracts.tree_at.TreeAtPartialEq.TheImpl as equality
 use Rattle.line_routes.specs.MustKeep.{must_keep_between, must_keep_tree, must_keep_at, there_and_back}
-use Rattle.line_routes.specs.TreeAt.{tree_goes, tree_at_moved, tree_at_carried, tree_at_part, way_of_tree, TreeAtLies}
+use Rattle.line_routes.specs.TreeAt.{tree_goes, tree_at_moved, tree_at_carried, tree_at_part, way_on_tree, way_of_tree, TreeAtLies}
 use Rattle.line_routes.specs.Trees.{target, is_exposed, tree_carried}
-use Rattle.line_routes.specs.Way.{Way, IsWay, back}
-use Rattle.line_routes.specs.laws.WayLaws.{edit_is_way}
+use Rattle.line_routes.specs.Trial.{part_by_trial}
+use Rattle.line_routes.specs.Way.{Way, IsWay, back, place_goes}
+use Rattle.line_routes.specs.laws.WayLaws.{edit_is_way, goes_inverse}
 use Rattle.line_routes.specs.laws.MustKeepLaws.{kept_exactly}
 use Rattle.line_routes.specs.laws.TreeAtEquals.{tree_at_equals}
 use Rattle.line_routes.specs.laws.TrialLaws.{trial_told}
 
 -- the opposite of an edit carries along as the way back does
 opposite_carries : (a : Along) (e : EditKind) (t : TreeAt) → tree_at_carried (edit_way a (opposite_of e)) t ≡ tree_at_carried (back (edit_way a e)) t
-unfolding tree_at_carried tree_goes tree_carried target is_exposed
+unfolding tree_at_carried tree_goes place_goes tree_carried target is_exposed
 opposite_carries a e t = refl
 
 module _ (w : Way) (is : IsWay w) (t : TreeAt) (lies : TreeAtLies t) where
   comes_from : (to : Position) → tree_goes w t ≡ Some to → tree_goes (back w) (record t { node = tree_carried (way_of_tree w t to) t.node; place = to })
       ≡ Some t.place
   unfolding tree_goes
-  comes_from to h = at_test (same_folded t.sheet t.edited) h
-    where
-      at_test : (b : Bool) → (if b then place_image w.along w.moves.to t.place else Some t.place) ≡ Some to →
-          (if b then place_image w.along w.moves.from to else Some to) ≡ Some t.place
-      at_test true e = (image_inverse w.along is.axis w.moves is.one_to_one).back t.place to e
-      at_test false e = let same : t.place ≡ to = cc in ap Some (sym same)
+  comes_from to h = (goes_inverse (way_on_tree w t) (record { axis = is.axis; one_to_one = is.one_to_one })).back t.place to h
 
   abbrev returned : TreeAt
   returned = tree_at_carried (back w) (tree_at_carried w t)
@@ -55,39 +48,19 @@ module _ (w : Way) (is : IsWay w) (t : TreeAt) (lies : TreeAtLies t) where
   unfolding node_back
   node_told to = kept_exactly (way_of_tree w t to) (record { axis = is.axis; one_to_one = is.one_to_one }) t.node lies.corners
 
-  -- what stays as its cell goes nowhere stays on the way back too, or is taken elsewhere
-  stays : (o : Option Position) → tree_goes w t ≡ None → tree_goes (back w) t ≡ o → returned ≡ tree_at_moved (back w) t o
-  unfolding tree_at_carried
-  stays o h g = ap (λ o. tree_at_moved (back w) (tree_at_moved w t o) (tree_goes (back w) (tree_at_moved w t o))) h ∙ ap (tree_at_moved (back w) t) g
-
-  no_rest : tree_goes (back w) t ≡ Some t.place → tree_goes w t ≡ Some t.place
-  unfolding tree_goes
-  no_rest h = at_test (same_folded t.sheet t.edited) h
-    where
-      at_test : (b : Bool) → (if b then place_image w.along w.moves.from t.place else Some t.place) ≡ Some t.place →
-          (if b then place_image w.along w.moves.to t.place else Some t.place) ≡ Some t.place
-      at_test true e = (image_inverse w.along is.axis w.moves is.one_to_one).forth t.place t.place e
-      at_test false e = refl
-
-  stay_told : (o : Option Position) → tree_goes w t ≡ None → tree_goes (back w) t ≡ o → Decides (not (is_some o)) (returned ≡ t)
-  stay_told None h g = (λ _. stays None h g, λ _. refl)
-  stay_told (Some q) h g = (
-    λ e. absurd (cc),
-    λ s.
-        let here : q ≡ t.place = ap (λ (x : TreeAt). x.place) (sym (stays (Some q) h g) ∙ s) in
-        let rest = no_rest (g ∙ ap Some here) in
-        absurd (cc),
-  )
-
-  told_at : (o : Option Position) → tree_goes w t ≡ o → Decides (not (must_keep_between w t o)) (returned ≡ t)
-  told_at None h = stay_told (tree_goes (back w) t) h refl
-  told_at (Some to) h =
+  told_at : (to : Position) → tree_goes w t ≡ Some to → Decides (not (must_keep_between w t (Some to))) (returned ≡ t)
+  told_at to h =
       Decides-like _ (λ s. returns to h ∙ (λ i. record t { node = s i })) (λ s. ap (λ (x : TreeAt). x.node) (sym (returns to h) ∙ s)) (node_told to)
+
+  part_told : (o : Option Position) → tree_goes w t ≡ o → (if is_none o then Some t else part_by_trial equality.ghosts.eq tree_at_carried w t)
+      ≡ (if must_keep_between w t o then Some t else None)
+  part_told None h = refl
+  part_told (Some to) h = trial_told equality.ghosts.eq tree_at_carried tree_at_equals w t (must_keep_between w t (Some to)) (told_at to h)
 
   -- what is kept of a tree is the tree, where it has to be kept
   pub tree_at_part_told : tree_at_part w t ≡ (if must_keep_tree w t then Some t else None)
   unfolding must_keep_tree
-  tree_at_part_told = trial_told equality.ghosts.eq tree_at_carried tree_at_equals w t (must_keep_between w t (tree_goes w t)) (told_at (tree_goes w t) refl)
+  tree_at_part_told = part_told (tree_goes w t) refl
 
   exact_at : (o : Option Position) → tree_goes w t ≡ o → is_some o ≡ true → Decides (not (must_keep_between w t o)) (returned.node ≡ t.node)
   exact_at None h some = absurd (cc)

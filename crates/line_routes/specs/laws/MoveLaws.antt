@@ -6,7 +6,6 @@ use Rattle.base_values.specs.Places.{IsLine}
 use Rattle.base_maps.specs.Carried.{if_there}
 use Rattle.formula_tree.specs.declared.Corner.{Corner}
 use Rattle.formula_tree.specs.Corners.{is_inside, are_in_order}
-use Rattle.formula_tree.specs.OnSheet.{is_on_sheet}
 use Rattle.formula_tree.specs.Placed.{is_placed_range}
 use Rattle.line_edits.specs.declared.EditKind.{EditKind}
 use Rattle.line_edits.specs.declared.EditKind.TheVariants.{Insert, Delete, Move}
@@ -14,7 +13,7 @@ use Rattle.line_edits.specs.Edit.{image_at, IsValid}
 use Rattle.line_edits.specs.Moves.{at_line, place_image}
 use Rattle.line_edits.specs.laws.Images.{move_image, move_parts}
 use Rattle.line_routes.specs.MustKeep.{keeps_reference, is_given_up, keeps_range, BecomesWhole, is_move}
-use Rattle.line_routes.specs.Trees.{corner_of, is_exposed, moved_corner}
+use Rattle.line_routes.specs.Trees.{corner_of, is_exposed, is_on_edited, moved_corner}
 use Rattle.line_routes.specs.Way.{Way, IsWay, place_goes}
 use Rattle.line_routes.specs.laws.CornersBack.{place_of, moved_goes, stands_inside}
 
@@ -57,7 +56,7 @@ module _ (w : Way) (is : IsWay w) (none : LosesNone w) where
   -- no reference has to be kept
   pub references_stay : (sheet : Option (List ℕ)) (corner : Corner) → is_inside w.from corner ≡ true → keeps_reference w sheet corner ≡ false
   unfolding keeps_reference
-  references_stay sheet corner inside = and_false (is_on_sheet w.own w.edited sheet) (is_none (moved_corner w true corner))
+  references_stay sheet corner inside = and_false (is_on_edited w.is_edited w.edited sheet) (is_none (moved_corner w true corner))
       (not_none (moved_corner w true corner) (corner_goes corner inside))
 
   becomes_at : (sheet : Option (List ℕ)) (first second : Corner) → is_exposed w sheet first second ≡ true → (o u : Option Corner) →

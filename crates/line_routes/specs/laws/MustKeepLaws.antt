@@ -16,12 +16,11 @@ use Rattle.formula_tree.specs.Corners.{is_inside, are_in_order, lower_corner, hi
 use Rattle.formula_tree.specs.laws.CornerLaws.{in_order-ordered, lower-in_order, higher-in_order}
 use Rattle.formula_tree.specs.laws.MovedEquations.{moved_reference, moved_range, moved_colon, moved_error}
 use Rattle.formula_tree.specs.Moved.{moved, reference_to, range_to}
-use Rattle.formula_tree.specs.OnSheet.{is_on_sheet}
 use Rattle.formula_tree.specs.Placed.{is_placed_range}
 use Rattle.formula_back.specs.laws.LeafLaws.{same_layers, TellsLeaves, tells_trees}
 use Rattle.formula_back.specs.laws.StillLaws.{still_passes_none}
 use Rattle.line_routes.specs.MustKeep.{keeps_reference, is_given_up, keeps_range, kept_leaves, must_keep}
-use Rattle.line_routes.specs.Trees.{corner_of, is_exposed, is_whole, moved_corner, following, tree_carried, tree_part, ComesBack, TreeLies}
+use Rattle.line_routes.specs.Trees.{corner_of, is_exposed, is_on_edited, is_whole, moved_corner, following, tree_carried, tree_part, ComesBack, TreeLies}
 use Rattle.line_routes.specs.Way.{Way, IsWay, back, place_goes}
 use Rattle.line_routes.specs.laws.CornersBack.{place_of, exposing, exposing_is_way, moved_goes, home, lower_there, higher_there, first_image}
 use Rattle.line_routes.specs.laws.CornersBack.{lower_inside, higher_inside, lower_goes_back, higher_goes_back, lower_again, higher_again, order_stays}
@@ -78,7 +77,7 @@ module _ (w : Way) (is : IsWay w) where
     abbrev reference_back : Bool → Node
     reference_back b = moved w.from (following (back w)) (reference_to sheet (moved_corner w b corner))
 
-    reference_returns : (b : Bool) (q : Position) → is_on_sheet w.own w.edited sheet ≡ b → place_goes (exposing w b) (place_of w.from corner) ≡ Some q →
+    reference_returns : (b : Bool) (q : Position) → is_on_edited w.is_edited w.edited sheet ≡ b → place_goes (exposing w b) (place_of w.from corner) ≡ Some q →
         reference_back b ≡ node.Reference sheet corner
     unfolding reference_to
     reference_returns b q on goes =
@@ -93,7 +92,7 @@ module _ (w : Way) (is : IsWay w) where
     unfolding reference_to
     reference_lost h = ap (λ c. moved w.from (following (back w)) (reference_to sheet c)) h ∙ moved_error w.from (following (back w)) Ref
 
-    reference_at : (b : Bool) → is_on_sheet w.own w.edited sheet ≡ b → (o : Option Position) → place_goes (exposing w b) (place_of w.from corner) ≡ o →
+    reference_at : (b : Bool) → is_on_edited w.is_edited w.edited sheet ≡ b → (o : Option Position) → place_goes (exposing w b) (place_of w.from corner) ≡ o →
         Decides (not (b && is_none (moved_corner w true corner))) (reference_back b ≡ node.Reference sheet corner)
     reference_at true on (Some q) goes = (λ _. reference_returns true q on goes, λ _. ap (λ c. not (is_none c)) (found true corner q inside goes))
     reference_at false on (Some q) goes = (λ _. reference_returns false q on goes, λ _. refl)
@@ -102,9 +101,9 @@ module _ (w : Way) (is : IsWay w) where
         (λ h. no_true (is_none (moved_corner w true corner)) (ap is_none gone) h, λ s. no_reference sheet corner (sym (reference_lost gone) ∙ s))
     reference_at false on None goes = none_stay (place_of w.from corner) goes
 
-    reference_told : Decides (not (keeps_reference w sheet corner)) (reference_back (is_on_sheet w.own w.edited sheet) ≡ node.Reference sheet corner)
+    reference_told : Decides (not (keeps_reference w sheet corner)) (reference_back (is_on_edited w.is_edited w.edited sheet) ≡ node.Reference sheet corner)
     unfolding keeps_reference
-    reference_told = reference_at (is_on_sheet w.own w.edited sheet) refl _ refl
+    reference_told = reference_at (is_on_edited w.is_edited w.edited sheet) refl _ refl
 
   -- ---- ranges
 
@@ -179,14 +178,14 @@ module _ (w : Way) (is : IsWay w) where
     abbrev was_whole : Bool
     was_whole = is_whole w.along first second
 
-    exposed_parts : is_exposed w sheet first second ≡ true → (is_on_sheet w.own w.edited sheet ≡ true) × (was_whole ≡ false)
+    exposed_parts : is_exposed w sheet first second ≡ true → (is_on_edited w.is_edited w.edited sheet ≡ true) × (was_whole ≡ false)
     unfolding is_exposed
-    exposed_parts h = parts (is_on_sheet w.own w.edited sheet) was_whole h
+    exposed_parts h = parts (is_on_edited w.is_edited w.edited sheet) was_whole h
       where
         parts : (a c : Bool) → a && not c ≡ true → (a ≡ true) × (c ≡ false)
         parts a c e = (grind arith, grind arith)
 
-    exposed_of : (a b : Corner) (on whole : Bool) → is_on_sheet w.own w.edited sheet ≡ on → is_whole w.along a b ≡ whole →
+    exposed_of : (a b : Corner) (on whole : Bool) → is_on_edited w.is_edited w.edited sheet ≡ on → is_whole w.along a b ≡ whole →
         is_exposed w sheet a b ≡ on && not whole
     unfolding is_exposed
     exposed_of a b on whole e f = λ i. e i && not (f i)
@@ -208,7 +207,7 @@ module _ (w : Way) (is : IsWay w) where
         let higher : higher_corner w.to (corner_of w.to first r) (corner_of w.to second s) ≡ d =
         (λ i. higher_corner w.to (corner_of w.to first (sym is_first i)) (corner_of w.to second (sym is_second i))) ∙ higher-in_order w.to c d ordered in
         (λ i. is_exposed w sheet (lower i) (higher i))
-        ∙ (λ i. is_on_sheet w.own w.edited sheet && not (w.along.of (whole_rows_stay w.from w.to first second i)
+        ∙ (λ i. is_on_edited w.is_edited w.edited sheet && not (w.along.of (whole_rows_stay w.from w.to first second i)
         (whole_columns_stay w.from w.to first second i)))
 
     first_lost : moved_corner w true first ≡ None → range_back true ≡ moved w.from (following (back w))
@@ -305,7 +304,7 @@ module _ (w : Way) (sheet : Option (List ℕ)) where
       let ends = same_ranges sheet (lower_corner w.to r s) (higher_corner w.to r s) first second same in
       (λ i. is_given_up w (f i) (g i))
       ∙ (λ i. is_whole w.along (ends.0 i) (ends.1 i))
-      ∙ not_whole (is_on_sheet w.own w.edited sheet) (is_whole w.along first second) exposed
+      ∙ not_whole (is_on_edited w.is_edited w.edited sheet) (is_whole w.along first second) exposed
   still_range first second true exposed (Some r) None f g same = no_range _ _ sheet first second same
   still_range first second true exposed None p f g same = no_range _ _ sheet first second same
   still_range first second false exposed o p f g same = refl
@@ -314,7 +313,7 @@ module _ (w : Way) (sheet : Option (List ℕ)) where
 pub still_is_not_kept : (w : Way) (tree : Node) → tree_carried w tree ≡ tree → must_keep w tree ≡ false
 unfolding must_keep tree_carried keeps_reference keeps_range
 still_is_not_kept w tree = still_passes_none w.to (following w) (kept_leaves w) (record {
-  reference = λ sheet corner. still_reference w sheet corner (is_on_sheet w.own w.edited sheet) _ refl;
+  reference = λ sheet corner. still_reference w sheet corner (is_on_edited w.is_edited w.edited sheet) _ refl;
   range = λ sheet first second. still_range w sheet first second (is_exposed w sheet first second) refl _ _ refl refl;
   no_name = λ name. refl;
 }) tree

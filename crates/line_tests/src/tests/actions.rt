@@ -47,7 +47,7 @@ fn ill_formed(rt: HostRuntime) -> Result<(), Fail> {
 fn put_cell(alloc: Global, book: &mut Workbook) -> Result<(), EditError> {
     let style = DefaultStyle::new(alloc)?;
     book.worksheet_mut(0)?
-        .set_cell_with_boolean(2, 2, true, style.shared())
+        .set_cell_with_boolean(2, 2, true, style.shared().get())
 }
 
 /// Whether edits of each kind, of rows and of columns, take the cell B2 to C3: by B3, C3, C4, D4 and D3.

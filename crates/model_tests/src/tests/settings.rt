@@ -134,10 +134,10 @@ fn put_borders(
         style: BorderStyle::Medium,
         color,
     });
-    sheet.set_cell_with_string(row, 2, "b", &Shared::new(alloc, style)?)?;
+    sheet.set_cell_with_string(row, 2, "b", &style)?;
     let mut style = Style::new(alloc)?;
     style.border.right = own.map(|style| BorderItem { style, color });
-    sheet.set_cell_with_string(row, 1, "a", &Shared::new(alloc, style)?)?;
+    sheet.set_cell_with_string(row, 1, "a", &style)?;
     Ok(())
 }
 

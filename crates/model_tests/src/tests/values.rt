@@ -177,7 +177,7 @@ fn values_are_made_with_each_change(rt: HostRuntime) -> Result<(), Fail> {
 /// A workbook with a dynamic formula in its first cell.
 fn dynamic_book(alloc: Global) -> Result<PlainModel, EditError> {
     let mut workbook = Workbook::new_empty(alloc, "book", Locale::En, Zone::Utc)?;
-    let style = Shared::new(alloc, Style::new(alloc)?)?;
+    let style = Style::new(alloc)?;
     let tree = Node::EmptyArgument;
     if has_canonical_numbers(&tree) {
         workbook

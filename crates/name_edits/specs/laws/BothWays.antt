@@ -29,8 +29,8 @@ use Rattle.book_names.specs.RenameDiffs.{stand_on_places, stand_on_parts, lie_in
 use Rattle.book_names.specs.RenameDiffs.{names_stand, formatting_stands, formattings_stand, may_stand}
 use Rattle.book_names.specs.laws.Entries.{none_fails}
 use Rattle.book_names.specs.laws.Stands.{HasLater, kept_on_places, kept_on_parts, kept_stand_later, kept_rules_stand_later, kept_tree_fits, kept_rule_fits}
-use Rattle.book_laws.specs.Ways.{LeadsBothWays}
-use Rattle.book_laws.specs.laws.ListTests.{passes_at}
+use Rattle.book_sheets.specs.Ways.{LeadsBothWays}
+use Rattle.book_sheets.specs.laws.ListTests.{passes_at}
 use Rattle.name_edits.specs.LookUp.{reach_at}
 use Rattle.name_edits.specs.NameChanges.{name_made, name_unmade, names_changed, opposite, sheet_updated, trees_lost}
 use Rattle.name_edits.specs.NameDiffs.{is_change, comes_fitting, keeps_nothing, goes_forward, goes_back, name_forward, name_back}

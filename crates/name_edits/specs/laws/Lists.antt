@@ -18,9 +18,9 @@ use Rattle.defined_names.specs.Names.{IsCanonicalName, AreCanonicalNames, is_sam
 use Rattle.sheet_rules.specs.Distinct.{are_distinct}
 use Rattle.sheet_rules.specs.Names.{first_place, has_living_scope, have_name_trees, are_names}
 use Rattle.book_sheets.specs.laws.Placed.{all_inserted, all_removed}
-use Rattle.book_laws.specs.laws.LaterNames.{named_parts}
-use Rattle.book_laws.specs.laws.ListEdits.{remove_inserted, insert_removed, got_within, length_inserted, length_removed}
-use Rattle.book_laws.specs.laws.ListTests.{all_with, all_without, distinct_with, distinct_without}
+use Rattle.book_sheets.specs.laws.LaterNames.{named_parts}
+use Rattle.book_sheets.specs.laws.ListEdits.{remove_inserted, insert_removed, got_within, length_inserted, length_removed}
+use Rattle.book_sheets.specs.laws.ListTests.{all_with, all_without, distinct_with, distinct_without}
 use Rattle.name_edits.specs.declared.name_change.NameChange.{NameChange}
 use Rattle.name_edits.specs.LookUp.{is_named, place_of}
 use Rattle.name_edits.specs.NameChanges.{name_come, name_gone, names_changed, opposite}

@@ -25,8 +25,8 @@ use Rattle.format_rules.specs.contracts.formatting.ConditionalFormattingPartialE
 use Rattle.format_rules.specs.Fitting.{has_parts}
 use Rattle.format_rules.specs.RuleTrees.{cfvo_passes, each_cfvo, each_tree, own_trees_pass}
 use Rattle.format_rules.specs.laws.RuleTreeLaws.{left, right, both}
-use Rattle.book_laws.specs.laws.ListEdits.{got_within}
-use Rattle.book_laws.specs.laws.ListTests.{all_others, passes_at}
+use Rattle.book_sheets.specs.laws.ListEdits.{got_within}
+use Rattle.book_sheets.specs.laws.ListTests.{all_others, passes_at}
 use Rattle.rule_edits.specs.declared.change.RuleChange.{RuleChange}
 use Rattle.rule_edits.specs.RuleChanges.{change_at, may_stand, rules_changed}
 use Rattle.rule_edits.specs.RuleEdits.{RuleEdit, checked_rule, come_behind, formatting_of, is_rule_formula, maybe_one, maybe_two, next_priority}

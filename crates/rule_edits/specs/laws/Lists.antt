@@ -7,8 +7,8 @@ use Rattle.std.proofs.lemmas.List.Elements.{All-from_recursion, recursion_from_A
 use Rattle.format_rules.specs.declared.ConditionalFormatting.{ConditionalFormatting}
 use Rattle.format_rules.specs.Canonical.{IsCanonicalFormatting, AreCanonicalRules}
 use Rattle.book_sheets.specs.laws.Placed.{all_inserted, all_removed}
-use Rattle.book_laws.specs.laws.ListEdits.{remove_inserted, insert_removed, got_within, length_inserted, length_removed}
-use Rattle.book_laws.specs.laws.ListTests.{all_with, all_without, passes_at}
+use Rattle.book_sheets.specs.laws.ListEdits.{remove_inserted, insert_removed, got_within, length_inserted, length_removed}
+use Rattle.book_sheets.specs.laws.ListTests.{all_with, all_without, passes_at}
 use Rattle.rule_edits.specs.declared.change.RuleChange.{RuleChange}
 use Rattle.rule_edits.specs.Made.{IsAt, IsMade}
 use Rattle.rule_edits.specs.RuleChanges.{change_at, change_goes, comes_fitting, has_place, may_stand, opposite, rule_come, rule_gone, rules_changed}

@@ -151,7 +151,7 @@ fn plain_style(alloc: Global) -> Result<Shared<Style>, EditError> {
 }
 
 /// A bold style with a size and two colours.
-fn bold_style(alloc: Global) -> Result<Shared<Style>, EditError> {
+fn bold_style(alloc: Global) -> Result<Style, EditError> {
     let mut bold = Style::new(alloc)?;
     bold.font.b = true;
     bold.font.sz = 20;
@@ -161,7 +161,7 @@ fn bold_style(alloc: Global) -> Result<Shared<Style>, EditError> {
         green: 0,
         blue: 171,
     };
-    Ok(Shared::new(alloc, bold)?)
+    Ok(bold)
 }
 
 /// Puts what an English text is read as, in the default style.
@@ -229,7 +229,7 @@ fn put_array(alloc: Global, sheet: &mut Worksheet) -> Result<(), EditError> {
     let style = plain_style(alloc)?;
     let tree = Node::Boolean(true);
     if has_canonical_numbers(&tree) {
-        sheet.set_cell_with_array_formula(4, 2, tree, &style, 3, 2)?;
+        sheet.set_cell_with_array_formula(4, 2, tree, style.get(), 3, 2)?;
     }
     Ok(())
 }
@@ -301,7 +301,7 @@ fn put_named(alloc: Global, workbook: &mut Workbook) -> Result<(), EditError> {
     sheet.set_state(SheetState::VeryHidden);
     sheet.set_color(&Color::Theme(ThemeColor::Light1));
     sheet.set_show_grid_lines(false);
-    sheet.set_frozen_rows(2);
+    sheet.set_frozen_rows(2)?;
     workbook.insert_worksheet(1, sheet)
 }
 

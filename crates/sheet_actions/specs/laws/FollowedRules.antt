@@ -23,7 +23,7 @@ use Rattle.line_routes.specs.MergedCells.{merged_cell_carried}
 use Rattle.line_routes.specs.Trees.{tree_carried}
 use Rattle.line_routes.specs.Way.{Way, IsWay}
 use Rattle.line_routes.specs.laws.MergedCellLaws.{merged_cell_stays}
-use Rattle.rule_lines.specs.Rules.{at_part, way_of_trees, formatting_moved, formatting_carried}
+use Rattle.line_map.specs.Rules.{at_part, way_of_trees, formatting_moved, formatting_carried}
 use Rattle.sheet_grid.specs.Sheet.{Sheet}
 use Rattle.sheet_rules.specs.WellFormed.{have_rule_trees, have_rule_parts}
 use Rattle.sheet_lines.specs.Followed.{sheet_followed}

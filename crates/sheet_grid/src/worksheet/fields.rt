@@ -1,14 +1,27 @@
 //! The name, the state, the colour, the grid lines and the frozen lines of a sheet, and copies that have another id and
 //! another name.
 
-ghost use Rattle.std.specs.Prelude.{◌≡◌, Ok, IfOk, IsOkUnless};
+ghost use Rattle.std.specs.Prelude.{◌≡◌, ◌≢◌, Ok, Err, IfOk, IsOkUnless};
 ghost use Rattle.base_values.specs.Answers.{Changes};
 ghost use Rattle.base_values.specs.declared.EditError.TheVariants.{NoMemory};
+ghost use Rattle.sheet_grid.specs.Sheet.{frozen_count, rows_frozen, columns_frozen};
 
 use super::Worksheet;
 use crate::state::SheetState;
 use base_styles::Color;
-use base_values::{EditError, Text, copy_of};
+use base_values::{EditError, LAST_COLUMN, LAST_ROW, Text, copy_of};
+
+#[tactic(auto, unfolding(crate::specs::Sheet::frozen_count))]
+fn frozen_count(most: i32, count: i32) -> Result<i32, EditError>
+    ensures count { result ≡ frozen_count most count }
+    ensures sure { result ≢ Err NoMemory }
+{
+    if 0 <= count && count <= most {
+        Ok(count)
+    } else {
+        Err(EditError::FrozenCount)
+    }
+}
 
 impl Worksheet {
     /// A copy of the name of the sheet. `NoMemory` alone is an error.
@@ -50,18 +63,35 @@ impl Worksheet {
         self.show_grid_lines = show;
     }
 
-    /// Sets how many rows at the top stay in sight. The count may be any. It takes no memory.
-    pub fn set_frozen_rows(&mut self, count: i32)
-        ensures { self.new ≡ record self.old { frozen_rows = count } }
+    /// Sets how many rows at the top stay in sight. It takes no memory.
+    ///
+    /// `FrozenCount` where the count is below 0 or not less than the rows of the sheet.
+    pub fn set_frozen_rows(&mut self, count: i32) -> Result<(), EditError>
+        ensures set { Changes result self.old self.new (rows_frozen self.old count) }
+        ensures sure { result ≢ Err NoMemory }
     {
-        self.frozen_rows = count;
+        self.frozen_rows = frozen_count(LAST_ROW - 1, count)?;
+        Ok(())
     }
 
-    /// Sets how many columns at the left stay in sight. The count may be any. It takes no memory.
-    pub fn set_frozen_columns(&mut self, count: i32)
-        ensures { self.new ≡ record self.old { frozen_columns = count } }
+    /// Sets how many columns at the left stay in sight. It takes no memory.
+    ///
+    /// `FrozenCount` where the count is below 0 or not less than the columns of the sheet.
+    pub fn set_frozen_columns(&mut self, count: i32) -> Result<(), EditError>
+        ensures set { Changes result self.old self.new (columns_frozen self.old count) }
+        ensures sure { result ≢ Err NoMemory }
     {
-        self.frozen_columns = count;
+        self.frozen_columns = frozen_count(LAST_COLUMN - 1, count)?;
+        Ok(())
+    }
+
+    /// Sets how many rows at the top and how many columns at the left stay in sight. The counts may be
+    /// any. It takes no memory.
+    pub fn put_frozen(&mut self, rows: i32, columns: i32)
+        ensures { self.new ≡ record self.old { frozen_rows = rows; frozen_columns = columns } }
+    {
+        self.frozen_rows = rows;
+        self.frozen_columns = columns;
     }
 
     /// A copy of the sheet that has another id and another name. `NoMemory` alone is an error.

@@ -6,7 +6,7 @@ ghost use Rattle.base_values.specs.Answers.{Changes, Returns};
 ghost use Rattle.base_values.specs.Places.{IsLine};
 ghost use Rattle.base_values.specs.declared.EditError.TheVariants.{NoMemory};
 ghost use Rattle.sheet_grid.specs.Lines.{AllStyled, SameBut, own_line_style, own_row_style, row_style_set, style_set, with_change, with_style};
-ghost use Rattle.sheet_grid.specs.Sheet.{cell_styled, column_changed, of_column, row_changed};
+ghost use Rattle.sheet_grid.specs.Sheet.{column_changed, of_column, row_changed};
 
 use super::Worksheet;
 use super::sizes::attr_of;
@@ -17,7 +17,6 @@ use base_axis::{Axis, AxisMap, ColumnAxis};
 use base_shared::Shared;
 use base_styles::Style;
 use base_values::{EditError, LAST_COLUMN, LAST_ROW, copy_of, line_of};
-use cell_content::Content;
 
 /// Sets the style that a line of an axis has of its own, or takes it away. `NoMemory` leaves the lines
 /// as they were.
@@ -76,13 +75,14 @@ impl Worksheet {
     /// Sets the style of every column. Widths stay, and hidden columns stay hidden; cells and rows keep
     /// their styles. It takes memory for all columns of the axis. `NoMemory` alone is an error, which
     /// leaves the sheet as it was.
-    pub fn set_style(&mut self, style: &Shared<Style>) -> Result<(), EditError>
+    pub fn set_style(&mut self, style: &Style) -> Result<(), EditError>
         ensures columns { OnOk result (AllStyled (pos 16384) style.now self.old.columns self.new.columns) }
         ensures rest { self.new ≡ record self.old { columns = self.new.columns } }
         ensures err { OnErr result (self.new ≡ self.old) }
         ensures only { IsOkUnless result NoMemory }
     {
-        self.columns = all_styled(&self.columns, style)?;
+        let style = self.shared_style(style)?;
+        self.columns = all_styled(&self.columns, &style)?;
         Ok(())
     }
 
@@ -103,12 +103,12 @@ impl Worksheet {
     /// stays, and it stays hidden or shown; cells keep their styles.
     ///
     /// `InvalidRow` where the row is outside the sheet.
-    pub fn set_row_style(&mut self, row: i32, style: &Shared<Style>) -> Result<(), EditError>
+    pub fn set_row_style(&mut self, row: i32, style: &Style) -> Result<(), EditError>
         ensures set { Changes result self.old self.new (row_changed self.old row (row_style_set style.now)) }
         ensures others { SameBut row self.old.rows self.new.rows }
     {
         let line = line_of(LAST_ROW, row, EditError::InvalidRow)?;
-        let style = copy_of(style)?;
+        let style = self.shared_style(style)?;
         set_line_style(&mut self.rows, line, own_row_style(style))
     }
 
@@ -116,12 +116,12 @@ impl Worksheet {
     /// stays, and it stays hidden or shown; cells keep their styles.
     ///
     /// `InvalidColumn` where the column is outside the sheet.
-    pub fn set_column_style(&mut self, column: i32, style: &Shared<Style>) -> Result<(), EditError>
+    pub fn set_column_style(&mut self, column: i32, style: &Style) -> Result<(), EditError>
         ensures set { Changes result self.old self.new (column_changed self.old column (style_set (Some style.now))) }
         ensures others { SameBut column self.old.columns self.new.columns }
     {
         let line = line_of(LAST_COLUMN, column, EditError::InvalidColumn)?;
-        let style = copy_of(style)?;
+        let style = self.shared_style(style)?;
         set_line_style(&mut self.columns, line, Some(style))
     }
 
@@ -145,24 +145,5 @@ impl Worksheet {
     {
         let line = line_of(LAST_COLUMN, column, EditError::InvalidColumn)?;
         set_line_style(&mut self.columns, line, None)
-    }
-
-    /// Sets the style of the cell at a row and a column, whose content stays. A place without a cell
-    /// gets an empty one.
-    ///
-    /// `InvalidRow` where the row is outside the sheet, else `InvalidColumn` where the column is.
-    pub fn set_cell_style(
-        &mut self,
-        row: i32,
-        column: i32,
-        style: &Shared<Style>,
-    ) -> Result<(), EditError>
-        ensures { Changes result self.old self.new (cell_styled self.old row column style.now) }
-    {
-        let content = match self.cell(row, column)? {
-            Some(cell) => cell.content,
-            None => Content::Empty,
-        };
-        self.put_content(row, column, content, style)
     }
 }

@@ -40,9 +40,9 @@ use Rattle.base_maps.specs.laws.Gathering.{get-lost_map}
 use Rattle.base_maps.specs.laws.CarriedLaws.{get-carried_map}
 use Rattle.line_routes.specs.laws.WayLaws.{goes_inverse}
 use Rattle.rule_edits.specs.RuleChanges as rule_changes
-use Rattle.rule_lines.specs.Rules.{are_there, formatting_carried, formatting_part, rules_kept}
+use Rattle.line_map.specs.Rules.{are_there, formatting_carried, formatting_part, rules_kept}
 use Rattle.base_maps.specs.laws.ByIndexLaws.{kept_are, kept_within}
-use Rattle.rule_lines.specs.laws.RuleLaws.{formatting_restores}
+use Rattle.line_map.specs.laws.RuleLaws.{formatting_restores}
 use Rattle.sheet_grid.specs.Arrays.{array_at}
 use Rattle.sheet_grid.specs.declared.Cell.{Cell}
 use Rattle.sheet_grid.specs.declared.LineAttr.{LineAttr}

@@ -22,9 +22,9 @@ use Rattle.line_map.specs.laws.AttributeLaws.{lines_restore}
 use Rattle.line_map.specs.laws.HeirLaws.{both_of}
 use Rattle.line_map.specs.laws.MapLaws.{brings_nothing, entries_return, lost_given, place_keys}
 use Rattle.line_routes.specs.laws.MergeLaws.{merges_come_back, merges_restore}
-use Rattle.rule_lines.specs.Rules.{rules_carried, rules_kept, rules_restored}
-use Rattle.rule_lines.specs.laws.FollowLaws.{formatting_elsewhere}
-use Rattle.rule_lines.specs.laws.RuleLaws.{rules_regained}
+use Rattle.line_map.specs.Rules.{rules_carried, rules_kept, rules_restored}
+use Rattle.line_map.specs.laws.FollowLaws.{formatting_elsewhere}
+use Rattle.line_map.specs.laws.RuleLaws.{rules_regained}
 use Rattle.sheet_lines.specs.Part.{merges_back, formattings_back}
 
 -- what was lost of the edited sheet alone is what each sheet lost itself

@@ -97,6 +97,6 @@ pub book_regained : (a : Along) → IsAxis a → (e : EditKind) → IsValid a.la
     book_back a e id (kept_lines a e id book) (book_followed a e id book) ≡ book
 book_regained a l e valid id book distinct =
     let w : Way = book_way a e id book in λ i. record book {
-      worksheets = (ap (λ edited. sheets_back (record w { own = edited; edited = edited }) (kept_lines a e id book) (book_followed a e id book).worksheets)
+      worksheets = (ap (λ edited. sheets_back (record w { edited = edited }) (kept_lines a e id book) (book_followed a e id book).worksheets)
           (ap name_of (found_carried w id book.worksheets) ∙ same_name w (sheet_of book id)) ∙ sheets_regained w (edit_is_way a l e valid id (name_of (sheet_of book id))) book distinct) i;
     }

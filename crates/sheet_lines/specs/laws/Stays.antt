@@ -43,9 +43,9 @@ use Rattle.line_map.specs.laws.ContentLaws.{cell_stays}
 use Rattle.line_routes.specs.laws.MergeLaws.{merges_part_fits, merges_stay}
 use Rattle.line_routes.specs.laws.TreeLaws.{tree_restores}
 use Rattle.line_routes.specs.laws.WayLaws.{at_is_way, back_is_way, goes_inverse}
-use Rattle.rule_lines.specs.Canonical.{KeptLie}
-use Rattle.rule_lines.specs.Rules.{rules_restored, RulesLie}
-use Rattle.rule_lines.specs.laws.RuleLaws.{kept_numbers, restored_lie, rules_stay}
+use Rattle.line_map.specs.Canonical.{KeptLie}
+use Rattle.line_map.specs.Rules.{rules_restored, RulesLie}
+use Rattle.line_map.specs.laws.RuleLaws.{kept_numbers, restored_lie, rules_stay}
 use Rattle.sheet_lines.specs.declared.kept.KeptLines.{KeptLines}
 use Rattle.sheet_lines.specs.Back.{AreCanonicalFormulas, sheet_back, sheets_back, LieInside, ArePlacedLines}
 use Rattle.sheet_lines.specs.Part.{merges_back, formattings_back}

@@ -16,7 +16,7 @@ use Rattle.line_map.specs.Maps.{entry_part}
 use Rattle.line_map.specs.laws.AttributeLaws.{lines_stay}
 use Rattle.line_map.specs.laws.MapLaws.{places_stay as map_stays}
 use Rattle.line_routes.specs.Way.{Way, IsWay, back, at, place_goes}
-use Rattle.rule_lines.specs.laws.RuleLaws.{rules_numbers}
+use Rattle.line_map.specs.laws.RuleLaws.{rules_numbers}
 use Rattle.sheet_grid.specs.CanonicalCell.{IsCanonicalCell}
 use Rattle.sheet_grid.specs.contracts.line_attr.LineAttrPartialEq.TheImpl as attribute
 use Rattle.sheet_grid.specs.Sheet.{Sheet}

@@ -4,17 +4,17 @@ ghost use Rattle.std.specs.Prelude.{◌≡◌, OnOk, OnErr};
 ghost use Rattle.sheet_history.specs.declared.LineAxis.TheVariants.{Rows, Columns};
 ghost use Rattle.sheet_history.specs.declared.SheetField.TheVariants.{FrozenColumns, FrozenRows};
 ghost use Rattle.edit_plans.specs.Edits.Edit.{SetField, SetHidden, SetSize};
-ghost use Rattle.user_model.specs.Machine.{edit_of};
+ghost use Rattle.open_book.specs.Machine.{edit_of};
 ghost use Rattle.user_model.specs.Properties.{column_width, frozen_columns, frozen_rows, row_height};
-ghost use Rattle.user_model.specs.Stands.{Steps};
-ghost use Rattle.user_model.specs.Values.{IsMade};
+ghost use Rattle.open_book.specs.Stands.{Steps};
+ghost use Rattle.open_book.specs.Values.{IsMade};
 
 use super::UserModel;
 use crate::properties::{column_width, frozen_columns, frozen_rows, row_height};
-use crate::recalc::Recalc;
 use crate::view_steps::seen_by_hiding;
 use base_values::EditError;
 use edit_plans::{plan_hidden, plan_size};
+use open_book::Recalc;
 use sheet_history::{LineAxis, SheetField};
 
 impl<R: Recalc + Drop> UserModel<R> {

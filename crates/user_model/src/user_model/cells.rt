@@ -10,9 +10,9 @@ use super::UserModel;
 use crate::cell_style::cell_style_at;
 use crate::cell_type::{CellType, type_at};
 use crate::properties::{first_filled, last_filled};
-use crate::recalc::Recalc;
 use base_styles::Style;
 use base_values::EditError;
+use open_book::Recalc;
 
 impl<R: Recalc + Drop> UserModel<R> {
     /// What kind of value the cell at a row and a column of the sheet at an index has: that of its computed

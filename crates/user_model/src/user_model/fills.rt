@@ -3,15 +3,15 @@
 ghost use Rattle.std.specs.Prelude.{◌≡◌, OnOk, OnErr};
 ghost use Rattle.sheet_history.specs.declared.LineAxis.TheVariants.{Rows, Columns};
 ghost use Rattle.user_model.specs.Reading.{rectangle_of};
-ghost use Rattle.user_model.specs.Stands.{Steps};
+ghost use Rattle.open_book.specs.Stands.{Steps};
 ghost use Rattle.user_model.specs.Typing.{fill_asked};
-ghost use Rattle.user_model.specs.Values.{IsMade};
+ghost use Rattle.open_book.specs.Values.{IsMade};
 
 use super::UserModel;
-use crate::recalc::Recalc;
 use base_axis::Area;
 use base_values::EditError;
 use edit_plans::plan_auto_fill;
+use open_book::Recalc;
 use sheet_history::LineAxis;
 
 impl<R: Recalc + Drop> UserModel<R> {

@@ -6,15 +6,15 @@ ghost use Rattle.sheet_history.specs.LineDiffs.{along_of};
 ghost use Rattle.sheet_history.specs.declared.LineAxis.TheVariants.{Rows, Columns};
 ghost use Rattle.edit_plans.specs.Edits.{is_silent};
 ghost use Rattle.edit_plans.specs.Edits.Edit.{Lines, MoveLines};
-ghost use Rattle.user_model.specs.Machine.{edit_of};
-ghost use Rattle.user_model.specs.Stands.{Steps};
-ghost use Rattle.user_model.specs.Values.{IsMade, Makes};
+ghost use Rattle.open_book.specs.Machine.{edit_of};
+ghost use Rattle.open_book.specs.Stands.{Steps};
+ghost use Rattle.open_book.specs.Values.{IsMade, Makes};
 
 use super::UserModel;
-use crate::recalc::Recalc;
 use base_axis::{Axis, ColumnAxis, RowAxis};
 use base_values::EditError;
 use line_map::EditKind;
+use open_book::Recalc;
 use sheet_history::LineAxis;
 
 impl<R: Recalc + Drop> UserModel<R> {
@@ -185,16 +185,16 @@ impl<R: Recalc + Drop> UserModel<R> {
     pub fn move_rows_action(
         &mut self,
         sheet: u32,
-        first: i32,
+        row: i32,
         count: i32,
         delta: i32,
     ) -> Result<(), EditError>
-        ensures next { Steps result self.old.document self.new.document (edit_of (MoveLines sheet Rows first count delta)) }
-        ensures output { OnOk result (Makes (is_silent (MoveLines sheet Rows first count delta) self.old.document.book) R.Fits self.old self.new) }
+        ensures next { Steps result self.old.document self.new.document (edit_of (MoveLines sheet Rows row count delta)) }
+        ensures output { OnOk result (Makes (is_silent (MoveLines sheet Rows row count delta) self.old.document.book) R.Fits self.old self.new) }
         ensures err { OnErr result (self.new ≡ self.old) }
         ensures paused { self.new.paused ≡ self.old.paused }
     {
-        self.move_lines::<RowAxis>(sheet, LineAxis::Rows, first, count, delta)
+        self.move_lines::<RowAxis>(sheet, LineAxis::Rows, row, count, delta)
     }
 
     /// Moves columns of the sheet at an index, as many as the count, from a first one on, by `delta`
@@ -213,15 +213,15 @@ impl<R: Recalc + Drop> UserModel<R> {
     pub fn move_columns_action(
         &mut self,
         sheet: u32,
-        first: i32,
+        column: i32,
         count: i32,
         delta: i32,
     ) -> Result<(), EditError>
-        ensures next { Steps result self.old.document self.new.document (edit_of (MoveLines sheet Columns first count delta)) }
-        ensures output { OnOk result (Makes (is_silent (MoveLines sheet Columns first count delta) self.old.document.book) R.Fits self.old self.new) }
+        ensures next { Steps result self.old.document self.new.document (edit_of (MoveLines sheet Columns column count delta)) }
+        ensures output { OnOk result (Makes (is_silent (MoveLines sheet Columns column count delta) self.old.document.book) R.Fits self.old self.new) }
         ensures err { OnErr result (self.new ≡ self.old) }
         ensures paused { self.new.paused ≡ self.old.paused }
     {
-        self.move_lines::<ColumnAxis>(sheet, LineAxis::Columns, first, count, delta)
+        self.move_lines::<ColumnAxis>(sheet, LineAxis::Columns, column, count, delta)
     }
 }

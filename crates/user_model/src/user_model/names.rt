@@ -8,14 +8,13 @@ ghost use Rattle.name_edits.specs.NameEdits.{name_goes, update_goes};
 ghost use Rattle.name_edits.specs.NameEdits.NameEdit.{Add, Remove, Update};
 ghost use Rattle.name_lists.specs.Listed.{listed_names};
 ghost use Rattle.edit_plans.specs.Edits.Edit.{ChangeNames};
-ghost use Rattle.user_model.specs.Machine.{edit_of};
+ghost use Rattle.open_book.specs.Machine.{edit_of};
 ghost use Rattle.user_model.specs.Reading.{formula_typed};
-ghost use Rattle.user_model.specs.Stands.{OnStates, Steps, Turns};
+ghost use Rattle.open_book.specs.Stands.{OnStates, Steps, Turns};
 ghost use Rattle.user_model.specs.Typing.{name_tested, name_typed, update_typed};
-ghost use Rattle.user_model.specs.Values.{IsMade};
+ghost use Rattle.open_book.specs.Values.{IsMade};
 
 use crate::reading::read_tree_at;
-use crate::recalc::Recalc;
 use crate::user_model::UserModel;
 use base_shared::Shared;
 use base_values::{EditError, Items, Position};
@@ -23,6 +22,7 @@ use edit_plans::{plan_changed_name, plan_new_name, plan_removed_name, sheet_edit
 use formula_tree::Node;
 use name_edits::{is_name_formula, name_goes, update_goes};
 use name_lists::{ScopedName, listed_names};
+use open_book::Recalc;
 
 impl<R: Recalc + Drop> UserModel<R> {
     /// The formula of a defined name that a text is read as, at A1.

@@ -4,19 +4,19 @@ ghost use Rattle.std.specs.Prelude.{◌≡◌, map, OnOk, OnErr};
 ghost use Rattle.range_styles.specs.declared.Clearing.TheVariants.{Cells, Contents};
 ghost use Rattle.edit_plans.specs.Edits.Edit.{ClearFormatting, ClearRange, PasteStyles, SetRangeStyle};
 ghost use Rattle.edit_plans.specs.RangeEdits.{pasted_by};
-ghost use Rattle.user_model.specs.Machine.{edit_of, pasted_edit};
+ghost use Rattle.open_book.specs.Machine.{edit_of, pasted_edit};
 ghost use Rattle.user_model.specs.Reading.{rectangle_of};
-ghost use Rattle.user_model.specs.Stands.{Steps};
-ghost use Rattle.user_model.specs.Values.{IsMade};
+ghost use Rattle.open_book.specs.Stands.{Steps};
+ghost use Rattle.open_book.specs.Values.{IsMade};
 
 use super::UserModel;
 use crate::reading::rectangle_of;
-use crate::recalc::Recalc;
 use crate::view_steps::{pasted_rectangle, seen_by_pasting};
 use base_axis::{Area, MergedCell};
 use base_styles::Style;
 use base_values::EditError;
 use edit_plans::{plan_clear, plan_clear_formatting, plan_pasted, plan_styles};
+use open_book::Recalc;
 use range_styles::Clearing;
 
 impl<R: Recalc + Drop> UserModel<R> {

@@ -8,17 +8,16 @@ ghost use Rattle.formula_tree.specs.Numbers as numbers;
 ghost use Rattle.format_rules.specs.Canonical.{has_canonical_numbers};
 ghost use Rattle.rule_edits.specs.RuleEdits.RuleEdit.{Add, Delete, Swap, Update};
 ghost use Rattle.edit_plans.specs.Edits.Edit.{EditRules};
-ghost use Rattle.user_model.specs.Machine.{edit_of};
+ghost use Rattle.open_book.specs.Machine.{edit_of};
 ghost use Rattle.user_model.specs.Properties.{formattings_in};
 ghost use Rattle.user_model.specs.Reading.{formula_at};
-ghost use Rattle.user_model.specs.Stands.{Steps};
+ghost use Rattle.open_book.specs.Stands.{Steps};
 ghost use Rattle.user_model.specs.Typing.{rule_formula};
-ghost use Rattle.user_model.specs.Values.{IsMade};
+ghost use Rattle.open_book.specs.Values.{IsMade};
 
 use super::UserModel;
 use crate::properties::formattings_in;
 use crate::reading::{find_rule_place, read_tree_at};
-use crate::recalc::Recalc;
 use base_axis::MergedCell;
 use base_shared::Shared;
 use base_values::{EditError, Position};
@@ -28,6 +27,7 @@ use edit_plans::{
 };
 use format_rules::{CfRule, ConditionalFormatting};
 use formula_tree::Node;
+use open_book::Recalc;
 
 impl<R: Recalc + Drop> UserModel<R> {
     /// The formula that a text is read as at a place inside the sheet.

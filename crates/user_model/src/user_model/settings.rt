@@ -10,18 +10,18 @@ ghost use Rattle.sheet_history.specs.declared.Setting.TheVariants as value;
 ghost use Rattle.edit_plans.specs.Edits.{is_silent};
 ghost use Rattle.edit_plans.specs.Edits.Edit.{SetSetting};
 ghost use Rattle.edit_plans.specs.SettingEdits.{is_own_name};
-ghost use Rattle.user_model.specs.Machine.{edit_of, speaking_in};
+ghost use Rattle.open_book.specs.Machine.{edit_of, speaking_in};
 ghost use Rattle.user_model.specs.Settings.{language_named, language_set, locale_set, resolved_text, zone_set};
-ghost use Rattle.user_model.specs.Stands.{Moves, OnStates, Steps};
-ghost use Rattle.user_model.specs.Values.{IsMade, Makes, speaking};
+ghost use Rattle.open_book.specs.Stands.{Moves, OnStates, Steps};
+ghost use Rattle.open_book.specs.Values.{IsMade, Makes, speaking};
 
 use super::UserModel;
 use crate::properties::resolved_text;
-use crate::recalc::Recalc;
 use base_styles::{Color, Theme};
 use base_tables::{Language, get_language, get_locale, get_zone};
 use base_values::EditError;
 use edit_plans::{plan_setting, plan_title, sheet_edits_go_both_ways};
+use open_book::Recalc;
 use sheet_grid::Workbook;
 use sheet_history::Setting;
 

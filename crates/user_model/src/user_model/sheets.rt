@@ -7,14 +7,13 @@ ghost use Rattle.sheet_history.specs.declared.SheetField.TheVariants as field;
 ghost use Rattle.edit_plans.specs.Edits.{is_silent};
 ghost use Rattle.edit_plans.specs.Edits.Edit.{AddSheet, CopySheet, DeleteSheet, MoveSheet, RenameSheet, SetField};
 ghost use Rattle.edit_plans.specs.SheetEdits.{is_named, stays_there};
-ghost use Rattle.user_model.specs.Machine.{edit_of};
+ghost use Rattle.open_book.specs.Machine.{edit_of};
 ghost use Rattle.user_model.specs.Properties.{all_properties, draws_grid_lines};
-ghost use Rattle.user_model.specs.Stands.{Steps};
-ghost use Rattle.user_model.specs.Values.{IsMade, Makes};
+ghost use Rattle.open_book.specs.Stands.{Steps};
+ghost use Rattle.open_book.specs.Values.{IsMade, Makes};
 
 use super::UserModel;
 use crate::properties::{SheetProperties, all_properties, draws_grid_lines};
-use crate::recalc::Recalc;
 use crate::view_steps::{selected_after_deletion, selected_after_field};
 use base_styles::Color;
 use base_values::{EditError, Items};
@@ -23,6 +22,7 @@ use edit_plans::{
     plan_renamed_sheet, selected_by_copy, selected_by_move, selected_by_new,
     sheet_edits_go_both_ways,
 };
+use open_book::Recalc;
 use sheet_grid::{SheetState, Workbook};
 use sheet_history::SheetField;
 

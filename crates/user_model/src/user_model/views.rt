@@ -4,15 +4,15 @@ ghost use Rattle.std.specs.Prelude.{◌≡◌, ◌≢◌, Err};
 ghost use Rattle.base_values.specs.Answers.{Edits, map_ok};
 ghost use Rattle.base_values.specs.declared.EditError.TheVariants.{NoMemory};
 ghost use Rattle.sheet_views.specs.Views.{range_chosen};
-ghost use Rattle.user_model.specs.Machine.{looking, range_selected, sheet_selected};
-ghost use Rattle.user_model.specs.Stands.{Moves, OnStates, Steps};
-ghost use Rattle.user_model.specs.Values.{seeing};
-ghost use Rattle.user_model.specs.Views.{sheet_chosen};
+ghost use Rattle.open_book.specs.Machine.{looking, range_selected, sheet_selected};
+ghost use Rattle.open_book.specs.Stands.{Moves, OnStates, Steps};
+ghost use Rattle.open_book.specs.Values.{seeing};
+ghost use Rattle.open_book.specs.Views.{sheet_chosen};
 
 use super::UserModel;
-use crate::recalc::Recalc;
 use crate::view_steps::choose_sheet;
 use base_values::EditError;
+use open_book::Recalc;
 use sheet_views::View;
 
 impl<R: Recalc + Drop> UserModel<R> {

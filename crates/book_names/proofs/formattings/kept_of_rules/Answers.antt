@@ -1,6 +1,6 @@
 use Rattle.std.proofs.Common.{sym, subst}
 use Rattle.std.proofs.lemmas.Result.{IfOk-weaker}
-use Rattle.rule_lines.specs.Canonical.{AreCanonicalKept}
+use Rattle.line_map.specs.Canonical.{AreCanonicalKept}
 use Rattle.book_names.specs.laws.Formattings.{own_kept_numbers}
 use Rattle.book_names.proofs.formattings.kept_of_rules.Goals as goal
 

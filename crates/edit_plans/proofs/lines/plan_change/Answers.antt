@@ -5,7 +5,7 @@ use Rattle.std.proofs.lemmas.Result.{err_from_is_err_and}
 use Rattle.base_values.specs.declared.EditError.{EditError}
 use Rattle.line_sizes.specs.declared.LineChange.{LineChange}
 use Rattle.line_sizes.specs.LineChanges.{lines_from}
-use Rattle.entry_records.specs.LineRecords.{change_fits}
+use Rattle.edit_plans.specs.LineRecords.{change_fits}
 use Rattle.edit_plans.specs.Plans.{Plans}
 use Rattle.edit_plans.specs.LineEdits.{attrs_set}
 use Rattle.edit_plans.specs.laws.LinePlans.{attrs_no_sheet, attrs_refused, attrs_unchanged, attrs_planned}

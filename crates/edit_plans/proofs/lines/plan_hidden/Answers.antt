@@ -1,4 +1,4 @@
-use Rattle.entry_records.specs.laws.AttrRules.{hidden_fits}
+use Rattle.edit_plans.specs.laws.AttrRules.{hidden_fits}
 use Rattle.edit_plans.proofs.lines.plan_hidden.Goals as goal
 
 pub plan_change-requires-clause-fits : goal.plan_change-requires-clause-fits

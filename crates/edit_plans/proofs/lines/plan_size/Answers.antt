@@ -3,8 +3,8 @@ use Rattle.std.specs.Prelude.{IfOk, IsTrue}
 use Rattle.std.proofs.lemmas.Int.{to_z-of_z}
 use Rattle.base_values.specs.declared.EditError.{EditError}
 use Rattle.line_sizes.specs.declared.LineChange.{LineChange}
-use Rattle.entry_records.specs.LineRecords.{change_fits}
-use Rattle.entry_records.specs.laws.AttrRules.{size_fits}
+use Rattle.edit_plans.specs.LineRecords.{change_fits}
+use Rattle.edit_plans.specs.laws.AttrRules.{size_fits}
 use Rattle.edit_plans.proofs.lines.plan_size.Goals as goal
 
 pub plan_change-requires-clause-fits : goal.plan_change-requires-clause-fits

@@ -1,5 +1,4 @@
-use Rattle.std.proofs.Common.{[], refl, rules, ap, sym, ◌∙◌}
-use Rattle.base_tables.specs.laws.Folding.{same_folded_decides}
+use Rattle.std.proofs.Common.{rules, ap, ◌∙◌}
 use Rattle.line_edits.specs.Edit.{image_at, is_valid, opposite_of}
 use Rattle.line_edits.specs.Merged.{merged_by}
 use Rattle.line_edits.specs.laws.Images.{opposite_twice, valid_opposite}
@@ -16,7 +15,6 @@ invariant_of-result g c =
       comes_back = ap (image_at last) (ap opposite_of c.requires.opposite ∙ opposite_twice kind);
       merges_back = ap (merged_by last) c.requires.opposite;
       merges_again = ap (merged_by last) (ap opposite_of c.requires.opposite ∙ opposite_twice kind);
-      is_named = sym ((same_folded_decides [] []).1 refl);
       from_inside = search rules;
       to_inside = search rules;
     }

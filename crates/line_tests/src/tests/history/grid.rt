@@ -8,14 +8,14 @@ use sheet_grid::{ColumnAttr, Link, RowAttr, Worksheet};
 use std::alloc::Global;
 use std::test::Fail;
 
-fn set_number(sheet: &mut Worksheet, style: &Shared<Style>) -> Result<(), EditError> {
+fn set_number(sheet: &mut Worksheet, style: &Style) -> Result<(), EditError> {
     match Decimal::read("5", Locale::De) {
         Some(five) => sheet.set_cell_with_number(1, 1, five, style),
         None => Err(EditError::InvalidColumn),
     }
 }
 
-fn set_values(sheet: &mut Worksheet, style: &Shared<Style>) -> Result<(), EditError> {
+fn set_values(sheet: &mut Worksheet, style: &Style) -> Result<(), EditError> {
     set_number(sheet, style)?;
     sheet.set_cell_with_string(1, 2, "five", style)?;
     sheet.set_cell_with_boolean(1, 3, true, style)?;
@@ -37,10 +37,10 @@ fn set_arrays(sheet: &mut Worksheet, style: &Shared<Style>) -> Result<(), EditEr
     for (row, width, height) in [(3, 2, 1), (3, 1, 2), (4, 2, 2)] {
         let tree = Node::EmptyArgument;
         if has_canonical_numbers(&tree) {
-            sheet.set_cell_with_array_formula(row, 1, tree, style, width, height)?;
+            sheet.set_cell_with_array_formula(row, 1, tree, style.get(), width, height)?;
         }
     }
-    sheet.set_cell_with_boolean(4, 1, true, style)
+    sheet.set_cell_with_boolean(4, 1, true, style.get())
 }
 
 /// A link, two rows with a height and a column with a style.
@@ -64,7 +64,7 @@ fn put_lines(sheet: &mut Worksheet, alloc: Global, style: Shared<Style>) -> Resu
 
 fn fill(sheet: &mut Worksheet, alloc: Global) -> Result<(), EditError> {
     let style = Shared::new(alloc, Style::new(alloc)?)?;
-    set_values(sheet, &style)?;
+    set_values(sheet, style.get())?;
     set_formulas(sheet, &style)?;
     set_arrays(sheet, &style)?;
     put_lines(sheet, alloc, style)

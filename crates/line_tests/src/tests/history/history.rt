@@ -34,7 +34,7 @@ fn new_cell(alloc: Global, size: i32) -> Result<Diff, EditError>
 }
 
 /// What is kept of lines, and nothing else.
-fn kept_with(alloc: Global, lines: NumberMap<LineAttr>) -> KeptLines
+pub(super) fn kept_with(alloc: Global, lines: NumberMap<LineAttr>) -> KeptLines
     ensures { AreCanonicalLines result }
 {
     KeptLines {
@@ -58,7 +58,7 @@ fn only(alloc: Global, diff: Diff) -> Result<DiffList, EditError>
 }
 
 /// A workbook of one empty sheet.
-fn empty_book(alloc: Global) -> Result<Workbook, EditError>
+pub(super) fn empty_book(alloc: Global) -> Result<Workbook, EditError>
     ensures { IfOk result IsWellFormed }
 {
     let book = Workbook::new_empty(alloc, "book", Locale::En, Zone::Utc)?;

@@ -4,8 +4,8 @@ use Rattle.base_values.specs.declared.EditError.TheVariants.{NoMemory}
 use Rattle.format_rules.specs.declared.CfRule.{CfRule}
 use Rattle.rule_edits.specs.RuleEdits.RuleEdit.{Add}
 use Rattle.edit_plans.specs.Edits.Edit.{EditRules}
-use Rattle.user_model.specs.Machine.{edit_of}
-use Rattle.user_model.specs.Stands.{Moves}
+use Rattle.open_book.specs.Machine.{edit_of}
+use Rattle.open_book.specs.Stands.{Moves}
 use Rattle.script_runs.specs.Script.{rule_typed}
 use Rattle.script_runs.proofs.Rules.{rule_is, short_turns, unread_turns}
 use Rattle.script_runs.proofs.Steps.{moves_turn}

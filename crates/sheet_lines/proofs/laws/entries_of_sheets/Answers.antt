@@ -18,8 +18,8 @@ use Rattle.line_map.specs.Contents.{cell_carried}
 use Rattle.line_map.specs.Maps.{entry_lost}
 use Rattle.line_routes.specs.Way.{at, back, place_goes}
 use Rattle.line_routes.specs.laws.WayLaws.{goes_inverse}
-use Rattle.rule_lines.specs.Rules.{KeepsRule}
-use Rattle.rule_lines.specs.laws.RuleLaws.{rules_are_kept}
+use Rattle.line_map.specs.Rules.{KeepsRule}
+use Rattle.line_map.specs.laws.RuleLaws.{rules_are_kept}
 use Rattle.sheet_grid.specs.Book.{Book}
 use Rattle.sheet_grid.specs.Sheet.{Sheet}
 use Rattle.sheet_grid.specs.contracts.line_attr.LineAttrPartialEq.TheImpl as attribute

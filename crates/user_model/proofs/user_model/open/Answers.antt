@@ -1,5 +1,5 @@
-use Rattle.user_model.specs.Machine.{begun}
-use Rattle.user_model.proofs.Sounds.{sound_begun}
+use Rattle.open_book.specs.Machine.{begun}
+use Rattle.open_book.proofs.Sounds.{sound_begun}
 use Rattle.user_model.proofs.user_model.open.Goals as goal
 
 pub returns-clause-stands : goal.returns-clause-stands

@@ -1,6 +1,6 @@
 use Rattle.std.proofs.Common.{◌+◌, length}
 use Rattle.std.specs.Option.{option_map, option_map_or}
-use Rattle.user_model.specs.Machine.{State}
+use Rattle.open_book.specs.Machine.{State}
 use Rattle.script_runs.specs.Session.{SessionStands}
 use Rattle.script_runs.proofs.Runs.{Reached}
 use Rattle.script_runs.proofs.session.Session.run_lines.Given as goal

@@ -1,8 +1,8 @@
 use Rattle.std.proofs.Common.{refl}
 use Rattle.name_edits.specs.NameEdits.NameEdit.{Add}
 use Rattle.edit_plans.specs.Edits.Edit.{ChangeNames}
-use Rattle.user_model.specs.Opened.{document_in}
-use Rattle.user_model.proofs.Moving.{reached_rules, sheet_plan_of}
+use Rattle.open_book.specs.Opened.{document_in}
+use Rattle.open_book.proofs.Moving.{reached_rules, sheet_plan_of}
 use Rattle.user_model.proofs.user_model.UserModel.add_name.Goals as goal
 
 pub plan_new_name-plan-requires : goal.plan_new_name-plan-requires

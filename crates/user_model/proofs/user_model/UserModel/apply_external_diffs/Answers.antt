@@ -2,11 +2,11 @@ use Rattle.std.proofs.Common.{◌≡◌, ◌⊎◌, inr, refl, sym, subst}
 use Rattle.std.proofs.lemmas.Result.{err_from_is_err_and}
 use Rattle.sheet_history.specs.Diffs.{IsCanonicalQueue}
 use Rattle.sheet_wire.specs.laws.Fitting.{canonical_queue_from_fits}
-use Rattle.user_model.specs.Opened.{document_in, session_of}
-use Rattle.user_model.specs.Stands.{StandsFor, Leaves}
-use Rattle.user_model.specs.Values.{Session, IsMade, LeavesMade}
+use Rattle.open_book.specs.Opened.{document_in, session_of}
+use Rattle.open_book.specs.Stands.{StandsFor, Leaves}
+use Rattle.open_book.specs.Values.{Session, IsMade, LeavesMade}
 use Rattle.user_model.proofs.Unread.{unread_leaves, unread_made, unread_edits, parse_no_queue, read_leaves, read_made, left_reached}
-use Rattle.user_model.proofs.Received.{carried_only, carried_there, left_made}
+use Rattle.open_book.proofs.Received.{carried_only, carried_there, left_made}
 use Rattle.user_model.proofs.Refusals.{never_unread}
 use Rattle.user_model.proofs.user_model.UserModel.apply_external_diffs.Goals as goal
 

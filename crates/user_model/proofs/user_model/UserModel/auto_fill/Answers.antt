@@ -3,13 +3,13 @@ use Rattle.std.proofs.lemmas.Int.{to_z-of_z}
 use Rattle.base_tables.specs.declared.Language.{Language}
 use Rattle.edit_plans.specs.Edits.{Edit}
 use Rattle.edit_plans.specs.Edits.Edit.{Fill}
-use Rattle.user_model.specs.Document.{Document}
-use Rattle.user_model.specs.Machine.{edit_of}
-use Rattle.user_model.specs.Opened.{document_in}
+use Rattle.open_book.specs.Document.{Document}
+use Rattle.open_book.specs.Machine.{edit_of}
+use Rattle.open_book.specs.Opened.{document_in}
 use Rattle.user_model.specs.Reading.{rectangle_of}
-use Rattle.user_model.specs.Stands.{Moves}
-use Rattle.user_model.specs.Values.{Session}
-use Rattle.user_model.proofs.Moving.{plan_of, reached_rules}
+use Rattle.open_book.specs.Stands.{Moves}
+use Rattle.open_book.specs.Values.{Session}
+use Rattle.open_book.proofs.Moving.{plan_of, reached_rules}
 use Rattle.user_model.proofs.user_model.UserModel.auto_fill.Goals as goal
 
 pub plan_auto_fill-plan-requires : goal.plan_auto_fill-plan-requires

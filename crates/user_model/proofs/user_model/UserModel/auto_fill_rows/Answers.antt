@@ -2,7 +2,7 @@ use Rattle.std.proofs.Common.{ℤ, subst, w32, SFits}
 use Rattle.std.proofs.lemmas.Int.{to_z-of_z}
 use Rattle.sheet_history.specs.declared.LineAxis.TheVariants.{Rows}
 use Rattle.user_model.specs.Reading.{rectangle_of}
-use Rattle.user_model.specs.Stands.{Steps}
+use Rattle.open_book.specs.Stands.{Steps}
 use Rattle.user_model.specs.Typing.{fill_asked}
 use Rattle.user_model.proofs.user_model.UserModel.auto_fill_rows.Goals as goal
 

@@ -1,8 +1,8 @@
 use Rattle.std.proofs.Common.{refl}
 use Rattle.edit_plans.specs.Edits.{Edit}
 use Rattle.edit_plans.specs.Edits.Edit.{ClearFormatting}
-use Rattle.user_model.specs.Opened.{document_in}
-use Rattle.user_model.proofs.Moving.{plan_of, reached_rules}
+use Rattle.open_book.specs.Opened.{document_in}
+use Rattle.open_book.proofs.Moving.{plan_of, reached_rules}
 use Rattle.user_model.proofs.user_model.UserModel.clear_formats.Goals as goal
 
 pub plan_clear_formatting-plan-requires : goal.plan_clear_formatting-plan-requires

@@ -1,11 +1,11 @@
 use Rattle.std.proofs.Common.{subst}
 use Rattle.edit_plans.specs.Edits.{Edit}
 use Rattle.edit_plans.specs.Edits.Edit.{Lines}
-use Rattle.user_model.specs.Machine.{State, edit_of}
-use Rattle.user_model.specs.Opened.{document_in}
-use Rattle.user_model.specs.Stands.{StandsFor, Moves}
-use Rattle.user_model.specs.Values.{Session}
-use Rattle.user_model.proofs.Moving.{changes_same, edit_moves, reached_by, reached_rules, same_session}
+use Rattle.open_book.specs.Machine.{State, edit_of}
+use Rattle.open_book.specs.Opened.{document_in}
+use Rattle.open_book.specs.Stands.{StandsFor, Moves}
+use Rattle.open_book.specs.Values.{Session}
+use Rattle.open_book.proofs.Moving.{changes_same, edit_moves, reached_by, reached_rules, same_session}
 use Rattle.user_model.proofs.user_model.UserModel.edit_lines.Goals as goal
 
 pub edit_lines-requires-clause-rules : goal.edit_lines-requires-clause-rules

@@ -1,9 +1,9 @@
 use Rattle.std.proofs.Common.{rules, ap, sym, subst, ◌∙◌}
 use Rattle.sheet_wire.specs.QueueBytes.{spell_queue, FitsQueue, IsKnownQueue}
-use Rattle.user_model.specs.Machine.{synced_of}
-use Rattle.user_model.specs.Opened.{document_in}
-use Rattle.user_model.specs.Values.{Session}
-use Rattle.user_model.proofs.Moving.{flushed_carries, flushed_fits, queued_known, synced_document}
+use Rattle.open_book.specs.Machine.{synced_of}
+use Rattle.open_book.specs.Opened.{document_in}
+use Rattle.open_book.specs.Values.{Session}
+use Rattle.open_book.proofs.Moving.{flushed_carries, flushed_fits, queued_known, synced_document}
 use Rattle.user_model.proofs.user_model.UserModel.flush_send_queue.Goals as goal
 
 pub encode_queue-requires : goal.encode_queue-requires

@@ -1,7 +1,7 @@
 use Rattle.std.proofs.Common.{subst}
-use Rattle.user_model.specs.Stands.{IsReached}
-use Rattle.user_model.specs.Values.{Session}
-use Rattle.user_model.proofs.Moving.{reached_rules}
+use Rattle.open_book.specs.Stands.{IsReached}
+use Rattle.open_book.specs.Values.{Session}
+use Rattle.open_book.proofs.Moving.{reached_rules}
 use Rattle.user_model.proofs.user_model.UserModel.get_model.Goals as goal
 
 pub returns-clause-rules : goal.returns-clause-rules

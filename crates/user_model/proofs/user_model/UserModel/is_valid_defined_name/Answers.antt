@@ -2,7 +2,7 @@ use Rattle.std.proofs.Common.{◌≡◌, Ok, Err, true, false, sym, subst, ◌�
 use Rattle.std.proofs.lemmas.Result.{err_from_is_err_and}
 use Rattle.formula_tree.specs.declared.Node.{Node}
 use Rattle.name_edits.specs.NameEdits.{is_name_formula, name_goes}
-use Rattle.user_model.specs.Values.{Session}
+use Rattle.open_book.specs.Values.{Session}
 use Rattle.user_model.proofs.NamesTyped.{tested_refused, tested_good, tested_bad}
 use Rattle.user_model.proofs.user_model.UserModel.is_valid_defined_name.Goals as goal
 

@@ -1,9 +1,9 @@
 use Rattle.std.proofs.Common.{ap, subst, sym, Result, Ok, Err, ◌∙◌}
 use Rattle.base_values.specs.declared.EditError.{EditError}
 use Rattle.sheet_views.specs.declared.View.{View}
-use Rattle.user_model.specs.Machine.{looking}
-use Rattle.user_model.specs.Stands.{Moves}
-use Rattle.user_model.proofs.Moving.{looked, not_looked}
+use Rattle.open_book.specs.Machine.{looking}
+use Rattle.open_book.specs.Stands.{Moves}
+use Rattle.open_book.proofs.Moving.{looked, not_looked}
 use Rattle.user_model.proofs.user_model.UserModel.look.Goals as goal
 
 pub returns-in-Ok-clause-next : goal.returns-in-Ok-clause-next

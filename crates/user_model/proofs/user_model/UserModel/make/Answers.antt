@@ -1,6 +1,6 @@
 use Rattle.std.proofs.Common.{sym, subst}
-use Rattle.user_model.specs.Stands.{IsAnySeenPlan, IsSeenPlan}
-use Rattle.user_model.specs.Values.{Session}
+use Rattle.open_book.specs.Stands.{IsAnySeenPlan, IsSeenPlan}
+use Rattle.open_book.specs.Values.{Session}
 use Rattle.user_model.proofs.user_model.UserModel.make.Goals as goal
 
 -- the view inside is the one that callers see

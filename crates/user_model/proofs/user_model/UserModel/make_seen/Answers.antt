@@ -1,9 +1,9 @@
 use Rattle.std.proofs.Common.{sym, subst}
-use Rattle.user_model.specs.Machine.{edit_of}
-use Rattle.user_model.specs.Opened.{document_in}
-use Rattle.user_model.specs.Stands.{StandsFor, IsAnySeenPlan, IsSeenPlan, Moves}
-use Rattle.user_model.specs.Values.{Session}
-use Rattle.user_model.proofs.Moving.{changes_same, edit_moves, reached_by, reached_rules, same_session}
+use Rattle.open_book.specs.Machine.{edit_of}
+use Rattle.open_book.specs.Opened.{document_in}
+use Rattle.open_book.specs.Stands.{StandsFor, IsAnySeenPlan, IsSeenPlan, Moves}
+use Rattle.open_book.specs.Values.{Session}
+use Rattle.open_book.proofs.Moving.{changes_same, edit_moves, reached_by, reached_rules, same_session}
 use Rattle.user_model.proofs.user_model.UserModel.make_seen.Goals as goal
 
 pub make-requires-clause-plan : goal.make-requires-clause-plan

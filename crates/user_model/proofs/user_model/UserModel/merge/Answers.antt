@@ -1,7 +1,7 @@
 use Rattle.std.proofs.Common.{refl}
 use Rattle.edit_plans.specs.Edits.Edit.{Merge}
-use Rattle.user_model.specs.Opened.{document_in}
-use Rattle.user_model.proofs.Moving.{plan_of, reached_rules}
+use Rattle.open_book.specs.Opened.{document_in}
+use Rattle.open_book.proofs.Moving.{plan_of, reached_rules}
 use Rattle.user_model.proofs.user_model.UserModel.merge.Goals as goal
 
 pub plan_merge-plan-requires : goal.plan_merge-plan-requires

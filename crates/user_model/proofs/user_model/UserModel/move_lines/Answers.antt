@@ -3,11 +3,11 @@ use Rattle.std.proofs.lemmas.Int.{to_z-of_z}
 use Rattle.std.specs.Prelude.{OnOk}
 use Rattle.edit_plans.specs.Edits.{Edit, is_silent}
 use Rattle.edit_plans.specs.Edits.Edit.{MoveLines}
-use Rattle.user_model.specs.Machine.{State, edit_of}
-use Rattle.user_model.specs.Opened.{document_in, session_of}
-use Rattle.user_model.specs.Stands.{StandsFor, Moves}
-use Rattle.user_model.specs.Values.{Session, Makes}
-use Rattle.user_model.proofs.Moving.{changes_same, edit_moves, reached_by, reached_rules, same_session}
+use Rattle.open_book.specs.Machine.{State, edit_of}
+use Rattle.open_book.specs.Opened.{document_in, session_of}
+use Rattle.open_book.specs.Stands.{StandsFor, Moves}
+use Rattle.open_book.specs.Values.{Session, Makes}
+use Rattle.open_book.proofs.Moving.{changes_same, edit_moves, reached_by, reached_rules, same_session}
 use Rattle.user_model.proofs.user_model.UserModel.move_lines.Goals as goal
 
 pub move_lines-requires-clause-rules : goal.move_lines-requires-clause-rules

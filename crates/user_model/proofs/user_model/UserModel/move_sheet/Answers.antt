@@ -2,8 +2,8 @@ use Rattle.std.proofs.Common.{◌≡◌, true, false, refl, sym, subst, ◌∙�
 use Rattle.std.specs.Prelude.{OnOk}
 use Rattle.edit_plans.specs.Edits.{is_silent}
 use Rattle.edit_plans.specs.Edits.Edit.{MoveSheet}
-use Rattle.user_model.specs.Values.{Session, Makes}
-use Rattle.user_model.proofs.Moving.{silent_moves}
+use Rattle.open_book.specs.Values.{Session, Makes}
+use Rattle.open_book.proofs.Moving.{silent_moves}
 use Rattle.user_model.proofs.user_model.UserModel.move_sheet.Goals as goal
 
 pub returns-then-stays_there-clause-next : goal.returns-then-stays_there-clause-next

@@ -1,7 +1,7 @@
 use Rattle.std.proofs.Common.{refl, sym}
 use Rattle.edit_plans.specs.Edits.Edit.{AddSheet}
-use Rattle.user_model.specs.Opened.{document_in}
-use Rattle.user_model.proofs.Moving.{reached_rules, sheet_plan_of}
+use Rattle.open_book.specs.Opened.{document_in}
+use Rattle.open_book.proofs.Moving.{reached_rules, sheet_plan_of}
 use Rattle.user_model.proofs.user_model.UserModel.new_sheet.Goals as goal
 
 pub plan_new_sheet-plan-requires : goal.plan_new_sheet-plan-requires

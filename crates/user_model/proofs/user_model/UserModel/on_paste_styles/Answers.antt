@@ -7,11 +7,11 @@ use Rattle.edit_plans.specs.Edits.{Edit}
 use Rattle.edit_plans.specs.Edits.Edit.{PasteStyles}
 use Rattle.edit_plans.specs.Plans.{Plans}
 use Rattle.edit_plans.specs.RangeEdits.{pasted_by}
-use Rattle.user_model.specs.Machine.{edit_of}
-use Rattle.user_model.specs.Opened.{document_in}
-use Rattle.user_model.specs.Stands.{Moves}
-use Rattle.user_model.specs.Values.{Session}
-use Rattle.user_model.proofs.Moving.{reached_rules, seen_plan_of}
+use Rattle.open_book.specs.Machine.{edit_of}
+use Rattle.open_book.specs.Opened.{document_in}
+use Rattle.open_book.specs.Stands.{Moves}
+use Rattle.open_book.specs.Values.{Session}
+use Rattle.open_book.proofs.Moving.{reached_rules, seen_plan_of}
 use Rattle.user_model.proofs.PastedStyles.{pasted_alike, seen_alike}
 use Rattle.user_model.proofs.user_model.UserModel.on_paste_styles.Goals as goal
 

@@ -1,7 +1,7 @@
 use Rattle.std.proofs.Common.{refl, sym}
 use Rattle.edit_plans.specs.Edits.Edit.{SetField}
-use Rattle.user_model.specs.Opened.{document_in}
-use Rattle.user_model.proofs.Moving.{field_there, plan_of, reached_rules}
+use Rattle.open_book.specs.Opened.{document_in}
+use Rattle.open_book.proofs.Moving.{field_there, plan_of, reached_rules}
 use Rattle.user_model.proofs.user_model.UserModel.put_field.Goals as goal
 
 pub plan_field-plan-requires : goal.plan_field-plan-requires

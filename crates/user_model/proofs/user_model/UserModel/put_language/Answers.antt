@@ -1,6 +1,6 @@
 use Rattle.std.proofs.Common.{ap}
-use Rattle.user_model.specs.Opened.{document_in}
-use Rattle.user_model.specs.Values.{Session, speaking}
+use Rattle.open_book.specs.Opened.{document_in}
+use Rattle.open_book.specs.Values.{Session, speaking}
 use Rattle.user_model.proofs.SettingSteps.{spoken_reached}
 use Rattle.user_model.proofs.user_model.UserModel.put_language.Goals as goal
 

@@ -2,9 +2,9 @@ use Rattle.std.proofs.Common.{◌≡◌, false, refl, sym, subst}
 use Rattle.edit_plans.specs.Edits.{is_silent}
 use Rattle.sheet_history.specs.declared.Setting.TheVariants as value
 use Rattle.edit_plans.specs.Edits.Edit.{SetSetting}
-use Rattle.user_model.specs.Opened.{document_in}
-use Rattle.user_model.specs.Values.{Session}
-use Rattle.user_model.proofs.Moving.{reached_rules, sheet_plan_of}
+use Rattle.open_book.specs.Opened.{document_in}
+use Rattle.open_book.specs.Values.{Session}
+use Rattle.open_book.proofs.Moving.{reached_rules, sheet_plan_of}
 use Rattle.user_model.proofs.user_model.UserModel.put_name.Goals as goal
 
 pub plan_title-plan-requires : goal.plan_title-plan-requires

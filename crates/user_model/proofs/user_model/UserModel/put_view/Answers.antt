@@ -1,7 +1,7 @@
 use Rattle.std.proofs.Common.{ap}
-use Rattle.user_model.specs.Opened.{document_in}
-use Rattle.user_model.specs.Values.{Session, seeing}
-use Rattle.user_model.proofs.Moving.{seen_reached}
+use Rattle.open_book.specs.Opened.{document_in}
+use Rattle.open_book.specs.Values.{Session, seeing}
+use Rattle.open_book.proofs.Moving.{seen_reached}
 use Rattle.user_model.proofs.user_model.UserModel.put_view.Goals as goal
 
 pub returns : goal.returns

@@ -1,7 +1,7 @@
 use Rattle.std.proofs.Common.{◌≡◌, Ok, Err, ap, sym, subst}
 use Rattle.std.proofs.lemmas.Result.{err_from_is_err_and}
 use Rattle.user_model.specs.Places.{rule_goes}
-use Rattle.user_model.specs.Values.{Session}
+use Rattle.open_book.specs.Values.{Session}
 use Rattle.user_model.proofs.RulesTyped.{read_refused, read_there}
 use Rattle.user_model.proofs.user_model.UserModel.read_rule_formula.Goals as goal
 

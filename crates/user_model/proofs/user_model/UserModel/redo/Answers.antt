@@ -1,10 +1,10 @@
 use Rattle.std.proofs.Common.{subst}
 use Rattle.std.specs.Prelude.{OnOk}
-use Rattle.user_model.specs.Machine.{State, redo_of}
-use Rattle.user_model.specs.Opened.{document_in, session_of}
-use Rattle.user_model.specs.Stands.{StandsFor, Turns}
-use Rattle.user_model.specs.Values.{Session, Makes, is_none_left}
-use Rattle.user_model.proofs.Moving.{edits_same, reached_on, same_session, redo_turns}
+use Rattle.open_book.specs.Machine.{State, redo_of}
+use Rattle.open_book.specs.Opened.{document_in, session_of}
+use Rattle.open_book.specs.Stands.{StandsFor, Turns}
+use Rattle.open_book.specs.Values.{Session, Makes, is_none_left}
+use Rattle.open_book.proofs.Moving.{edits_same, reached_on, same_session, redo_turns}
 use Rattle.user_model.proofs.user_model.UserModel.redo.Goals as goal
 
 pub make_again-requires : goal.make_again-requires

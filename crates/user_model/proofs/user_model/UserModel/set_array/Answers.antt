@@ -1,7 +1,7 @@
 use Rattle.std.proofs.Common.{refl}
 use Rattle.edit_plans.specs.Edits.Edit.{ArrayInput}
-use Rattle.user_model.specs.Opened.{document_in}
-use Rattle.user_model.proofs.Moving.{plan_of, reached_rules}
+use Rattle.open_book.specs.Opened.{document_in}
+use Rattle.open_book.proofs.Moving.{plan_of, reached_rules}
 use Rattle.user_model.proofs.user_model.UserModel.set_array.Goals as goal
 
 pub plan_array-plan-requires-clause-rules : goal.plan_array-plan-requires-clause-rules

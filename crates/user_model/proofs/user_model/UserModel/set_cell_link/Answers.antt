@@ -5,11 +5,11 @@ use Rattle.base_values.specs.declared.EditError.{EditError}
 use Rattle.base_values.specs.declared.EditError.TheVariants.{NoMemory}
 use Rattle.edit_plans.specs.Edits.{Edit}
 use Rattle.edit_plans.specs.Edits.Edit.{SetLink}
-use Rattle.user_model.specs.Machine.{edit_of}
+use Rattle.open_book.specs.Machine.{edit_of}
 use Rattle.user_model.specs.Places.{link_goes}
 use Rattle.user_model.specs.Reading.{link_to}
-use Rattle.user_model.specs.Stands.{Moves}
-use Rattle.user_model.specs.Values.{Session}
+use Rattle.open_book.specs.Stands.{Moves}
+use Rattle.open_book.specs.Values.{Session}
 use Rattle.user_model.proofs.Inputs.{link_refused, link_accepted, refused_moves, short_moves}
 use Rattle.user_model.proofs.user_model.UserModel.set_cell_link.Goals as goal
 

@@ -2,9 +2,9 @@ use Rattle.std.proofs.Common.{refl, sym, w32, SFits, ◌∙◌}
 use Rattle.std.proofs.lemmas.Int.{to_z-of_z}
 use Rattle.edit_plans.specs.Edits.{Edit}
 use Rattle.edit_plans.specs.Edits.Edit.{SetHidden}
-use Rattle.user_model.specs.Opened.{document_in}
+use Rattle.open_book.specs.Opened.{document_in}
 use Rattle.user_model.proofs.HiddenLines.{hidden_lines, seen_asked}
-use Rattle.user_model.proofs.Moving.{reached_rules, seen_plan_of}
+use Rattle.open_book.proofs.Moving.{reached_rules, seen_plan_of}
 use Rattle.user_model.proofs.user_model.UserModel.set_hidden.Goals as goal
 
 pub plan_hidden-plan-requires : goal.plan_hidden-plan-requires

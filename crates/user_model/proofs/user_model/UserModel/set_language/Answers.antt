@@ -4,9 +4,9 @@ use Rattle.base_values.specs.declared.EditError.TheVariants.{LanguageName, NoMem
 use Rattle.base_values.specs.Answers.{Edits, map_ok}
 use Rattle.base_tables.specs.declared.Language.{Language}
 use Rattle.base_tables.specs.Language.{language_of_name}
-use Rattle.user_model.specs.Machine.{speaking_in}
-use Rattle.user_model.specs.Stands.{Moves}
-use Rattle.user_model.specs.Values.{speaking}
+use Rattle.open_book.specs.Machine.{speaking_in}
+use Rattle.open_book.specs.Stands.{Moves}
+use Rattle.open_book.specs.Values.{speaking}
 use Rattle.user_model.proofs.SettingSteps.{table_sure}
 use Rattle.user_model.proofs.user_model.UserModel.set_language.Goals as goal
 

@@ -3,8 +3,8 @@ use Rattle.std.specs.Prelude.{OnOk}
 use Rattle.edit_plans.specs.Edits.{is_silent}
 use Rattle.sheet_history.specs.declared.Setting.TheVariants as value
 use Rattle.edit_plans.specs.Edits.Edit.{SetSetting}
-use Rattle.user_model.specs.Values.{Session, Makes}
-use Rattle.user_model.proofs.Moving.{silent_moves}
+use Rattle.open_book.specs.Values.{Session, Makes}
+use Rattle.open_book.proofs.Moving.{silent_moves}
 use Rattle.user_model.proofs.user_model.UserModel.set_name.Goals as goal
 
 pub returns-then-is_own_name-clause-next : goal.returns-then-is_own_name-clause-next

@@ -2,11 +2,11 @@ use Rattle.std.proofs.Common.{ap, subst, ◌∙◌, w32, SFits}
 use Rattle.std.proofs.lemmas.Int.{to_z-of_z}
 use Rattle.base_values.specs.Answers.{Edits, map_ok}
 use Rattle.sheet_views.specs.Views.{range_chosen}
-use Rattle.user_model.specs.Document.{Document}
-use Rattle.user_model.specs.Machine.{looking}
-use Rattle.user_model.specs.Stands.{Moves}
-use Rattle.user_model.specs.Values.{Session, seeing}
-use Rattle.user_model.proofs.Moving.{range_sure}
+use Rattle.open_book.specs.Document.{Document}
+use Rattle.open_book.specs.Machine.{looking}
+use Rattle.open_book.specs.Stands.{Moves}
+use Rattle.open_book.specs.Values.{Session, seeing}
+use Rattle.open_book.proofs.Moving.{range_sure}
 use Rattle.user_model.proofs.user_model.UserModel.set_selected_range.Goals as goal
 
 pub look-requires : goal.look-requires

@@ -1,10 +1,10 @@
 use Rattle.std.proofs.Common.{ap, subst, ◌∙◌}
 use Rattle.base_values.specs.Answers.{Edits, map_ok}
-use Rattle.user_model.specs.Document.{Document}
-use Rattle.user_model.specs.Machine.{looking}
-use Rattle.user_model.specs.Stands.{Moves}
-use Rattle.user_model.specs.Values.{Session, seeing}
-use Rattle.user_model.specs.Views.{sheet_chosen}
+use Rattle.open_book.specs.Document.{Document}
+use Rattle.open_book.specs.Machine.{looking}
+use Rattle.open_book.specs.Stands.{Moves}
+use Rattle.open_book.specs.Values.{Session, seeing}
+use Rattle.open_book.specs.Views.{sheet_chosen}
 use Rattle.user_model.proofs.user_model.UserModel.set_selected_sheet.Goals as goal
 
 pub returns-clause-seen : goal.returns-clause-seen

@@ -11,11 +11,11 @@ use Rattle.formula_read.specs.Formula.{formula_of}
 use Rattle.cell_content.specs.Fitting.{tree_fits_at}
 use Rattle.edit_plans.specs.Edits.{Edit}
 use Rattle.edit_plans.specs.Edits.Edit.{ArrayInput}
-use Rattle.user_model.specs.Machine.{edit_of}
+use Rattle.open_book.specs.Machine.{edit_of}
 use Rattle.user_model.specs.Places.{array_goes}
 use Rattle.user_model.specs.Reading.{formula_typed, profile_at, rectangle, without_sign}
-use Rattle.user_model.specs.Stands.{Moves}
-use Rattle.user_model.specs.Values.{Session}
+use Rattle.open_book.specs.Stands.{Moves}
+use Rattle.open_book.specs.Values.{Session}
 use Rattle.user_model.proofs.Inputs.{array_refused, array_accepted, refused_moves, short_moves}
 use Rattle.user_model.proofs.user_model.UserModel.set_user_array_formula.Goals as goal
 

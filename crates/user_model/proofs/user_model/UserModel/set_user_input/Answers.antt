@@ -9,11 +9,11 @@ use Rattle.line_sizes.specs.Heights.{line_feeds}
 use Rattle.edit_plans.specs.Edits.{Edit}
 use Rattle.edit_plans.specs.Edits.Edit.{Input}
 use Rattle.edit_plans.specs.Inputs.{IsInput}
-use Rattle.user_model.specs.Machine.{edit_of}
+use Rattle.open_book.specs.Machine.{edit_of}
 use Rattle.user_model.specs.Places.{input_goes}
 use Rattle.user_model.specs.Reading.{profile_at, typed}
-use Rattle.user_model.specs.Stands.{Moves}
-use Rattle.user_model.specs.Values.{Session}
+use Rattle.open_book.specs.Stands.{Moves}
+use Rattle.open_book.specs.Values.{Session}
 use Rattle.user_model.proofs.Inputs.{input_refused, input_accepted, refused_moves, short_moves}
 use Rattle.user_model.proofs.Typed.{typed_input}
 use Rattle.user_model.proofs.user_model.UserModel.set_user_input.Goals as goal

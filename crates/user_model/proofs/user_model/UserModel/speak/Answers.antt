@@ -1,8 +1,8 @@
 use Rattle.std.proofs.Common.{ap, subst, sym, Result, Ok, Err, ◌∙◌}
 use Rattle.base_values.specs.declared.EditError.{EditError}
 use Rattle.base_tables.specs.declared.Language.{Language}
-use Rattle.user_model.specs.Machine.{speaking_in}
-use Rattle.user_model.specs.Stands.{Moves}
+use Rattle.open_book.specs.Machine.{speaking_in}
+use Rattle.open_book.specs.Stands.{Moves}
 use Rattle.user_model.proofs.SettingSteps.{spoken, not_spoken}
 use Rattle.user_model.proofs.user_model.UserModel.speak.Goals as goal
 

@@ -1,8 +1,8 @@
 use Rattle.std.proofs.Common.{refl, w32, SFits}
 use Rattle.std.proofs.lemmas.Int.{to_z-of_z}
 use Rattle.edit_plans.specs.Edits.Edit.{Unmerge}
-use Rattle.user_model.specs.Opened.{document_in}
-use Rattle.user_model.proofs.Moving.{plan_of, reached_rules}
+use Rattle.open_book.specs.Opened.{document_in}
+use Rattle.open_book.proofs.Moving.{plan_of, reached_rules}
 use Rattle.user_model.proofs.user_model.UserModel.unmerge_cells.Goals as goal
 
 pub plan_unmerge-plan-requires : goal.plan_unmerge-plan-requires

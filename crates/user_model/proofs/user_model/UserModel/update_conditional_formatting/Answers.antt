@@ -1,8 +1,8 @@
 use Rattle.std.proofs.Common.{refl}
 use Rattle.rule_edits.specs.RuleEdits.RuleEdit.{Update}
 use Rattle.edit_plans.specs.Edits.Edit.{EditRules}
-use Rattle.user_model.specs.Opened.{document_in}
-use Rattle.user_model.proofs.Moving.{reached_rules, sheet_plan_of}
+use Rattle.open_book.specs.Opened.{document_in}
+use Rattle.open_book.proofs.Moving.{reached_rules, sheet_plan_of}
 use Rattle.user_model.proofs.user_model.UserModel.update_conditional_formatting.Goals as goal
 
 pub plan_changed_rule-plan-requires : goal.plan_changed_rule-plan-requires

@@ -4,10 +4,10 @@ use Rattle.std.proofs.lemmas.Result.{err_from_is_err_and}
 use Rattle.name_edits.specs.NameEdits.{update_goes}
 use Rattle.name_edits.specs.NameEdits.NameEdit.{Update}
 use Rattle.edit_plans.specs.Edits.Edit.{ChangeNames}
-use Rattle.user_model.specs.Machine.{edit_of}
+use Rattle.open_book.specs.Machine.{edit_of}
 use Rattle.user_model.specs.Reading.{formula_typed}
-use Rattle.user_model.specs.Stands.{Moves}
-use Rattle.user_model.specs.Values.{Session}
+use Rattle.open_book.specs.Stands.{Moves}
+use Rattle.open_book.specs.Values.{Session}
 use Rattle.user_model.proofs.Inputs.{refused_turns, short_turns}
 use Rattle.user_model.proofs.NamesTyped.{update_refused}
 use Rattle.user_model.proofs.user_model.UserModel.update_defined_name.Goals as goal

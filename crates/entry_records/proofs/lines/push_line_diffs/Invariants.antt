@@ -1,8 +1,0 @@
-use Rattle.std.proofs.Common.{◌≡◌, ◌++◌}
-use Rattle.sheet_history.specs.Diffs.{IsCanonicalList}
-use Rattle.entry_records.specs.LineRecords.{line_diffs}
-use Rattle.entry_records.proofs.lines.push_line_diffs.Given as goal
-
--- the diffs of the lines passed stand behind the others
-abbrev pub invariant-loop-index : goal.invariant-loop-index
-invariant-loop-index g l = (l.list ≡ l.initial.list ++ line_diffs l.sheet l.axis l.change l.lines l.first l.index) × IsCanonicalList l.list

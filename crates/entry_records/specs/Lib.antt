@@ -1,3 +1,0 @@
-pub mod LineRecords
-pub mod SheetPlans
-pub mod laws

@@ -1,0 +1,16 @@
+pub mod Documents
+pub mod EntrySteps
+pub mod KeptLines
+pub mod LinePlans
+pub mod LineSteps
+pub mod Lists
+pub mod MoveSteps
+pub mod Moving
+pub mod Planned
+pub mod Recording
+pub mod Received
+pub mod SheetSteps
+pub mod SheetsSpelled
+pub mod Sounds
+pub mod Spelled
+pub mod Tested

@@ -1,0 +1,11 @@
+pub mod Far
+pub mod Spellable
+pub mod Views
+pub mod Machine
+pub mod Document
+pub mod Values
+pub mod Sound
+pub mod BothWays
+pub mod Opened
+pub mod Stands
+pub mod Untested

@@ -1,4 +1,0 @@
-pub mod RuleLaws
-pub mod FollowLaws
-pub mod EditedEquals
-pub mod EditedLaws

@@ -14,6 +14,17 @@ fn bytes_of(alloc: Global, digits: &str) -> Vec<u8> {
     hex::decode(alloc, digits).unwrap_or(Vec::new(alloc))
 }
 
+/// The tree at the front of bytes, and those that are left.
+fn tree_at(alloc: Global, bytes: &[u8]) -> Result<(Shared<Node>, &[u8]), EditError> {
+    match node_at(alloc, bytes) {
+        Ok((tree, rest)) => match Shared::new(alloc, tree) {
+            Ok(tree) => Ok((tree, rest)),
+            Err(_) => Err(EditError::NoMemory),
+        },
+        Err(error) => Err(error),
+    }
+}
+
 /// The bytes of a tree, and those that stood behind it.
 fn written(alloc: Global, tree: &Node, rest: &[u8]) -> Result<String, AllocError> {
     let mut out = Vec::new(alloc);
@@ -29,8 +40,8 @@ fn written(alloc: Global, tree: &Node, rest: &[u8]) -> Result<String, AllocError
 /// The bytes of the tree that bytes spell, and behind a blank those that are left.
 pub(crate) fn tree(alloc: Global, row: &Row) -> Result<String, EditError> {
     let bytes = bytes_of(alloc, row.argument(0));
-    match node_at(alloc, bytes.as_slice()) {
-        Ok((tree, rest)) => Ok(written(alloc, &tree, rest)?),
+    match tree_at(alloc, bytes.as_slice()) {
+        Ok((tree, rest)) => Ok(written(alloc, tree.get(), rest)?),
         Err(error) => copied(alloc, error.name()),
     }
 }
@@ -48,16 +59,18 @@ pub(crate) fn fronts(alloc: Global, row: &Row) -> Result<String, EditError> {
 }
 
 fn is_refused(alloc: Global, bytes: &[u8]) -> bool {
-    matches!(node_at(alloc, bytes), Err(EditError::ParseDiffs))
+    matches!(tree_at(alloc, bytes), Err(EditError::ParseDiffs))
 }
 
 /// Whether the tree that bytes spell may stand in the cell as a formula.
 pub(crate) fn fits(alloc: Global, at: &At, row: &Row) -> Result<String, EditError> {
     let bytes = bytes_of(alloc, row.argument(0));
-    match node_at(alloc, bytes.as_slice()) {
+    match tree_at(alloc, bytes.as_slice()) {
         Ok((tree, _)) => {
-            let content = Content::Formula(Shared::new(alloc, tree)?);
-            yes_or_no(alloc, fits_at(at.place, &content))
+            let content = Content::Formula(tree);
+            let fits = fits_at(at.place, &content);
+            drop(content);
+            yes_or_no(alloc, fits)
         }
         Err(error) => copied(alloc, error.name()),
     }
@@ -66,14 +79,14 @@ pub(crate) fn fits(alloc: Global, at: &At, row: &Row) -> Result<String, EditErro
 /// The bytes of the tree that a text is read as.
 pub(crate) fn spelled(alloc: Global, at: &At, row: &Row) -> Result<String, EditError> {
     let tree = forms::tree(alloc, at, row.argument(0))?;
-    Ok(written(alloc, &tree, &[])?)
+    Ok(written(alloc, tree.get(), &[])?)
 }
 
 /// The tree that bytes spell, in the form that is asked for.
 pub(crate) fn printed_tree(alloc: Global, at: &At, row: &Row) -> Result<String, EditError> {
     let bytes = bytes_of(alloc, row.argument(1));
-    match node_at(alloc, bytes.as_slice()) {
-        Ok((tree, _)) => printed(alloc, at, row.argument(0), &tree),
+    match tree_at(alloc, bytes.as_slice()) {
+        Ok((tree, _)) => printed(alloc, at, row.argument(0), tree.get()),
         Err(error) => copied(alloc, error.name()),
     }
 }

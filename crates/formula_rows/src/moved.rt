@@ -3,17 +3,22 @@ use crate::forms::tree;
 use crate::row::Row;
 use crate::words::{copied, number, word};
 use base_shared::Shared;
-use base_values::{EditError, Text};
+use base_values::EditError;
 use formula_move::{DisplaceData, displace_node, to_string_displaced};
 use formula_names::{rename_defined_name_in_node, rename_sheet_in_node};
 use formula_print::to_localized_string;
-use formula_tree::{Node, rebase_node};
+use formula_tree::{CellReferenceRC, Node, rebase_node};
 use std::alloc::Global;
 
-/// A tree as it is printed in a cell.
-fn printed_at(alloc: Global, at: &At, tree: &Node) -> Result<String, EditError> {
-    let context = at.context(alloc)?;
-    to_localized_string(alloc, tree, &context, at.locale, at.language)
+/// A tree as it is printed in a cell, in the signs and words of the rows.
+fn printed_in(
+    alloc: Global,
+    at: &At,
+    context: &CellReferenceRC,
+    tree: Node,
+) -> Result<String, EditError> {
+    let tree = Shared::new(alloc, tree)?;
+    to_localized_string(alloc, tree.get(), context, at.locale, at.language)
 }
 
 /// The formula of a text, put into another cell and printed there.
@@ -22,9 +27,8 @@ pub(crate) fn rebased(alloc: Global, at: &At, row: &Row) -> Result<String, EditE
         return copied(alloc, "no place");
     };
     let tree = tree(alloc, at, row.argument(1))?;
-    let rebased = rebase_node(alloc, &tree, place)?;
     let context = cell(alloc, place, at.sheet.as_str())?;
-    to_localized_string(alloc, &rebased, &context, at.locale, at.language)
+    printed_in(alloc, at, &context, rebase_node(alloc, tree.get(), place)?)
 }
 
 /// The displacement that words tell: its kind, the sheet, the lines and how far they go.
@@ -88,8 +92,12 @@ fn displaced_node(
     by: &DisplaceData<'_>,
 ) -> Result<String, EditError> {
     let context = at.context(alloc)?;
-    let moved = displace_node(alloc, tree, &context, by)?;
-    to_localized_string(alloc, &moved, &context, at.locale, at.language)
+    printed_in(
+        alloc,
+        at,
+        &context,
+        displace_node(alloc, tree, &context, by)?,
+    )
 }
 
 /// The formula of a text after a displacement, as both calls give it.
@@ -97,31 +105,26 @@ pub(crate) fn displaced(alloc: Global, at: &At, row: &Row) -> Result<String, Edi
     let by = displacement(row.argument(0));
     let tree = tree(alloc, at, row.argument(1))?;
     let context = at.context(alloc)?;
-    let text = to_string_displaced(alloc, &tree, &context, &by, at.locale, at.language)?;
-    let other = displaced_node(alloc, at, &tree, &by)?;
+    let text = to_string_displaced(alloc, tree.get(), &context, &by, at.locale, at.language)?;
+    let other = displaced_node(alloc, at, tree.get(), &by)?;
     if text.as_str() == other.as_str() {
         return Ok(text);
     }
     Ok(format!(in alloc; "{text} and {other}")?)
 }
 
-fn shared(alloc: Global, name: &str) -> Result<Shared<Text>, EditError> {
-    let text = Text::new(String::from_str(alloc, name)?);
-    Ok(Shared::new(alloc, text)?)
-}
-
 /// The formula of a text after a sheet was renamed.
 pub(crate) fn renamed_sheet(alloc: Global, at: &At, row: &Row) -> Result<String, EditError> {
-    let new = shared(alloc, row.argument(1))?;
     let tree = tree(alloc, at, row.argument(2))?;
-    let renamed = rename_sheet_in_node(alloc, &tree, row.argument(0), &new)?;
-    printed_at(alloc, at, &renamed)
+    let context = at.context(alloc)?;
+    let renamed = rename_sheet_in_node(alloc, tree.get(), row.argument(0), row.argument(1))?;
+    printed_in(alloc, at, &context, renamed)
 }
 
 /// The formula of a text after a defined name was renamed.
 pub(crate) fn renamed_name(alloc: Global, at: &At, row: &Row) -> Result<String, EditError> {
-    let new = shared(alloc, row.argument(1))?;
     let tree = tree(alloc, at, row.argument(2))?;
-    let renamed = rename_defined_name_in_node(alloc, &tree, row.argument(0), &new)?;
-    printed_at(alloc, at, &renamed)
+    let context = at.context(alloc)?;
+    let renamed = rename_defined_name_in_node(alloc, tree.get(), row.argument(0), row.argument(1))?;
+    printed_in(alloc, at, &context, renamed)
 }

@@ -1,9 +1,7 @@
 mod formattings;
 mod keys;
-mod names;
 mod naming;
 mod navigation;
-mod progress;
 mod ranges;
 mod rule_trees;
 mod rules;

@@ -1,4 +1,3 @@
 mod actions;
-mod edits;
 mod history;
 mod rules;

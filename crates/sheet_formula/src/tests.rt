@@ -1,12 +1,4 @@
-// Tests of the crates below, whose own check is long.
-mod bytes;
+// Tests of the crates below, whose own check is long. What rows can say is in `formula_rows`.
 mod contents;
-mod displacing;
-mod forms;
-mod inputs;
-mod notation;
-mod printing;
+mod outside;
 mod round;
-mod texts;
-mod tokens;
-mod trees;

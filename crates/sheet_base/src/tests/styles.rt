@@ -1,8 +1,7 @@
 use super::is_copied;
 use crate::{
-    Alignment, BorderItem, BorderStyle, Color, EditError, HorizontalAlignment, RgbColor, Style,
-    Theme, ThemeColor, VerticalAlignment, is_max_border, read_color, same, test_update,
-    update_style,
+    Alignment, Color, EditError, HorizontalAlignment, Style, ThemeColor, VerticalAlignment,
+    read_color, same, test_update, update_style,
 };
 use std::process::Abort;
 use std::test::Fail;
@@ -133,64 +132,4 @@ fn alignments_go(rt: &impl Abort, style: &Style) -> Result<(), EditError> {
 fn alignments_by_name(rt: HostRuntime) -> Result<(), Fail> {
     let style = Style::new(rt.alloc())?;
     Ok(alignments_go(&rt, &style)?)
-}
-
-/// A border of a style and a colour in words; of an unknown one without a colour.
-fn border(style: BorderStyle, color: &str) -> BorderItem {
-    BorderItem {
-        style,
-        color: read_color(color).unwrap_or(Color::None),
-    }
-}
-
-fn check_darker(rt: &impl Abort, a: &str, b: &str, shows: bool) {
-    let (first, second) = (border(BorderStyle::Thin, a), border(BorderStyle::Thin, b));
-    let answer = is_max_border(Some(&first), Some(&second), &Theme::default());
-    assert_eq!(rt; answer, shows, "{a} and {b}");
-}
-
-/// Of two equally heavy borders the darker one shows.
-#[test]
-fn darker_borders(rt: HostRuntime) {
-    for (a, b, shows) in [
-        ("#FFFFFF", "#000000", true),
-        ("#000000", "#FFFFFF", false),
-        ("#FF0000", "#800000", true),
-        ("#800000", "#FF0000", false),
-        ("#00FF00", "#008000", true),
-        ("#008000", "#00FF00", false),
-        ("#0000FF", "#000080", true),
-        ("#000080", "#0000FF", false),
-        ("#123456", "#123456", false),
-        ("#000000", "#010101", false),
-        ("#FEFEFE", "#FFFFFF", false),
-        ("#7F7F7F", "#808080", false),
-        ("#CCCCCC", "#333333", true),
-        ("#FFFF00", "#808000", true),
-        ("#FF00FF", "#800080", true),
-        ("#777777", "#777777", false),
-        ("#000000", "#010000", false),
-        ("theme:0", "theme:1", true),
-        ("theme:1", "", false),
-        ("theme:2", "", true),
-    ] {
-        check_darker(&rt, a, b, shows);
-    }
-}
-
-/// A border shows where there is none or a lighter one, whatever its colour.
-#[test]
-fn heavier_borders(rt: HostRuntime) {
-    let theme = Theme::default();
-    let thin = border(BorderStyle::Thin, "#FFF");
-    let thick = border(BorderStyle::Thick, "#FFF");
-    assert!(rt; is_max_border(None, Some(&thin), &theme));
-    assert!(rt; !is_max_border(Some(&thin), None, &theme));
-    assert!(rt; !is_max_border(None, None, &theme));
-    assert!(rt; is_max_border(Some(&thin), Some(&thick), &theme));
-    assert!(rt; !is_max_border(Some(&thick), Some(&thin), &theme));
-    assert_eq!(rt;
-        theme.color(ThemeColor::Accent1),
-        RgbColor::new(0x44, 0x72, 0xC4)
-    );
 }

@@ -1,9 +1,9 @@
-// Which formulas fit a place, at the borders of each rule, and what a tree is put into.
+// How deep a formula may be that stands in a cell, and what a tree is put into.
 use base_decimal::Decimal;
 use base_shared::Shared;
 use base_values::{EditError, Position};
 use cell_content::{Content, fits_at, with_tree};
-use formula_tree::{Corner, Node, UnaryKind};
+use formula_tree::{Node, UnaryKind};
 use std::alloc::{AllocError, Global};
 use std::test::Fail;
 
@@ -12,15 +12,6 @@ const C3: Position = Position { row: 3, column: 3 };
 fn number(mantissa: i128) -> Node {
     let places = 0;
     Node::Number(Decimal { mantissa, places })
-}
-
-fn relative(row: i32, column: i32) -> Corner {
-    Corner {
-        absolute_row: false,
-        row,
-        absolute_column: false,
-        column,
-    }
 }
 
 fn minus(alloc: Global, child: Node) -> Result<Node, AllocError> {
@@ -34,33 +25,6 @@ fn minus_signs(alloc: Global, count: u64) -> Result<Node, AllocError> {
         node = minus(alloc, node)?;
     }
     Ok(node)
-}
-
-fn tree_fits(alloc: Global, tree: Node) -> Result<bool, AllocError> {
-    Ok(fits_at(C3, &Content::Dynamic(Shared::new(alloc, tree)?)))
-}
-
-fn reference_fits(alloc: Global, corner: Corner) -> Result<bool, AllocError> {
-    tree_fits(alloc, Node::Reference(None, corner))
-}
-
-fn range_fits(alloc: Global, first: Corner, second: Corner) -> Result<bool, AllocError> {
-    tree_fits(alloc, Node::Range(None, first, second))
-}
-
-#[test]
-fn corners_and_numbers(rt: HostRuntime) -> Result<(), Fail> {
-    let alloc = rt.alloc();
-    // in C3, A1 and the column before A, the last row and the one after it
-    assert!(rt; reference_fits(alloc, relative(-2, -2))?);
-    assert!(rt; !reference_fits(alloc, relative(0, -3))?);
-    assert!(rt; reference_fits(alloc, relative(1_048_573, 0))?);
-    assert!(rt; !reference_fits(alloc, relative(1_048_574, 0))?);
-    assert!(rt; range_fits(alloc, relative(0, 0), relative(1, 1))?);
-    assert!(rt; !range_fits(alloc, relative(0, 1), relative(1, 0))?);
-    assert!(rt; tree_fits(alloc, number(0))?);
-    assert!(rt; !tree_fits(alloc, number(-1))?);
-    Ok(())
 }
 
 /// Whether so many minus signs before a number fit.

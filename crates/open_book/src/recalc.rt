@@ -50,7 +50,7 @@ pub trait Recalc {
 /// ```
 /// let model = UserModel::new_empty(alloc, "budget", "en", "UTC", "en", ClearAll)?;
 /// ```
-#[derive(Drop)]
+#[derive(Clone, Copy, Debug, PartialEq, Eq)]
 pub struct ClearAll;
 
 impl Recalc for ClearAll {

@@ -19,7 +19,7 @@ use std::alloc::Global;
 use std::collections::btree_map::Iter;
 
 /// What is taken away of the cells of a rectangle.
-#[derive(Clone, Copy, Debug)]
+#[derive(Clone, Copy, Debug, PartialEq, Eq)]
 pub enum Clearing {
     /// The contents. The cells keep their styles.
     Contents,

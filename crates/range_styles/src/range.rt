@@ -10,7 +10,7 @@ use base_values::{LAST_COLUMN, LAST_ROW};
 use sheet_grid::Worksheet;
 
 /// What a rectangle consists of.
-#[derive(Clone, Copy, Debug)]
+#[derive(Clone, Copy, Debug, PartialEq, Eq)]
 pub enum AreaKind {
     /// Of full columns: it begins at row 1 and has all rows.
     FullColumns,
@@ -22,7 +22,7 @@ pub enum AreaKind {
 
 /// A rectangle of places whose styles are changed, and how: of full columns and full rows the lines
 /// have styles of their own.
-#[derive(Clone, Copy, Debug)]
+#[derive(Clone, Copy, Debug, PartialEq, Eq)]
 pub struct StyleRange {
     pub area: MergedCell,
     pub kind: AreaKind,

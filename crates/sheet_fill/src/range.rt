@@ -10,7 +10,7 @@ use base_axis::{Area, Axis, MergedCell, outside};
 use base_values::{EditError, Position, is_line};
 
 /// The source of a fill, and the target: the lines that are filled, on the same cross lines.
-#[derive(Clone, Copy)]
+#[derive(Clone, Copy, Debug, PartialEq, Eq)]
 pub struct FillRange {
     pub source: MergedCell,
     pub target: MergedCell,

@@ -38,7 +38,9 @@ pub fn formulas_are_kept<A: Axis>(workbook: &Workbook, sheet_id: u32, edit: &Lin
     ensures kept { (n : ℕ) (p : Position) → KeepsExactly (book_way A.along edit.now.kind sheet_id workbook.now) workbook.now n p }
 {
     // A law does no work.
-    let _ = (workbook, sheet_id, edit);
+    let _ = workbook;
+    let _ = sheet_id;
+    let _ = edit;
 }
 
 /// What the ranges of surviving formulas denote after an insertion or a deletion of lines: each that is
@@ -50,5 +52,7 @@ pub fn ranges_denote<A: Axis>(workbook: &Workbook, sheet_id: u32, edit: &LineEdi
     ensures ranges { (n : ℕ) (p : Position) → IfSome (surviving (book_way A.along edit.now.kind sheet_id workbook.now) workbook.now n p) (λ s. RangesDenote s.0 s.1 (tree_at_place (book_followed A.along edit.now.kind sheet_id workbook.now) n s.0.to)) }
 {
     // A law does no work.
-    let _ = (workbook, sheet_id, edit);
+    let _ = workbook;
+    let _ = sheet_id;
+    let _ = edit;
 }

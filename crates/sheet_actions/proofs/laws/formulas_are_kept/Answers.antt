@@ -6,8 +6,8 @@ use Rattle.sheet_actions.specs.laws.KeptFormulas.{keeps_exactly}
 use Rattle.sheet_actions.specs.laws.Placed.{placed_from_well_formed}
 use Rattle.sheet_actions.proofs.laws.formulas_are_kept.Goals as goal
 
-pub returns : goal.returns
-returns g c =
+pub returns-clause-kept : goal.returns-clause-kept
+returns-clause-kept g c =
     let a = g.A.Axis.along in
     let book = c.args.workbook.now in
     keeps_exactly (book_way a c.args.edit.now.kind c.args.sheet_id book)

@@ -21,7 +21,7 @@ use Rattle.line_routes.specs.laws.MustKeepLaws.{part_by_corners}
 use Rattle.sheet_lines.specs.Followed.{way_on}
 use Rattle.sheet_lines.specs.Sheets.{IsPlacedSheet, IsPlacedBook}
 use Rattle.sheet_lines.specs.laws.Regained.{formulas_at}
-use Rattle.sheet_actions.specs.Formulas.{surviving, KeepsExactly}
+use Rattle.sheet_actions.specs.Formulas.{KeepsExactly}
 
 abbrev kept_of : Option (Way × Node) → Option Node
 kept_of o = if_there o (λ s. if must_keep s.0 s.1 then Some s.1 else None)

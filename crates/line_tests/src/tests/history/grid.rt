@@ -26,8 +26,8 @@ fn set_values(sheet: &mut Worksheet, style: &Style) -> Result<(), EditError> {
 fn set_formulas(sheet: &mut Worksheet, style: &Shared<Style>) -> Result<(), EditError> {
     let (tree, other) = (Node::EmptyArgument, Node::EmptyArgument);
     if has_canonical_numbers(&tree) && has_canonical_numbers(&other) {
-        sheet.set_cell_with_formula(1, 5, tree, style)?;
-        sheet.set_cell_with_dynamic_formula(1, 6, other, style)?;
+        sheet.set_cell_with_formula(1, 5, tree, style.get())?;
+        sheet.set_cell_with_dynamic_formula(1, 6, other, style.get())?;
     }
     Ok(())
 }

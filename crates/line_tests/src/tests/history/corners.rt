@@ -2,19 +2,17 @@
 
 ghost use Rattle.std.specs.Prelude.{IfOk, IsTrue};
 ghost use Rattle.formula_tree.specs.Numbers.{has_canonical_numbers};
-ghost use Rattle.book_names.specs.Renaming.{AreCanonicalTrees};
 ghost use Rattle.sheet_history.specs.Diffs.{IsCanonicalDiff, IsCanonicalList};
 
 use super::history::{empty_book, kept_with};
-use base_maps::{IndexMap, NumberMap, SheetIndexMap, SheetPlaceMap};
+use base_maps::NumberMap;
 use base_shared::Shared;
 use base_styles::Style;
 use base_values::{EditError, Items, Position, Text};
-use book_names::KeptTrees;
 use formula_tree::{Corner, Node, has_canonical_numbers};
 use line_map::EditKind;
 use sheet_grid::{Cell, Content, Workbook};
-use sheet_history::{Diff, DiffList, LineAxis, forward};
+use sheet_history::{Diff, DiffList, LineAxis, forward_in_place};
 use std::alloc::Global;
 use std::test::Fail;
 
@@ -71,29 +69,7 @@ fn new_row(alloc: Global) -> Result<Diff, EditError>
     })
 }
 
-fn no_trees(alloc: Global) -> KeptTrees
-    ensures { AreCanonicalTrees result }
-{
-    KeptTrees {
-        formulas: SheetPlaceMap::new(alloc),
-        names: IndexMap::new(alloc),
-        formattings: SheetIndexMap::new(alloc),
-    }
-}
-
-/// Another name for the second sheet.
-fn other_name(alloc: Global) -> Result<Diff, EditError>
-    ensures { IfOk result IsCanonicalDiff }
-{
-    Ok(Diff::RenameSheet {
-        sheet: 2,
-        old: text(alloc, "SHEET1")?,
-        new: text(alloc, "Second")?,
-        kept: Shared::new(alloc, no_trees(alloc))?,
-    })
-}
-
-/// The second sheet, its formula, the row of the first sheet, and the other name.
+/// The second sheet, its formula, and the row of the first sheet.
 fn changes(alloc: Global, tree: Node) -> Result<DiffList, EditError>
     requires { IsTrue (has_canonical_numbers tree) }
     ensures { IfOk result IsCanonicalList }
@@ -103,30 +79,31 @@ fn changes(alloc: Global, tree: Node) -> Result<DiffList, EditError>
     list.push(second_sheet(alloc)?)?;
     list.push(cell)?;
     list.push(new_row(alloc)?)?;
-    list.push(other_name(alloc)?)?;
     Ok(Shared::new(alloc, list)?)
 }
 
 /// Whether the cell A1 of the second sheet has the formula `=A5`.
 fn has_fifth_row(book: &Workbook) -> Result<bool, EditError> {
-    match book.worksheet(1)?.cell(1, 1)? {
-        Some(cell) => match cell.content {
-            Content::Formula(tree) => Ok(*tree.get() == fifth_row()),
-            _ => Ok(false),
-        },
-        None => Ok(false),
+    let Some(cell) = book.worksheet(1)?.cell(1, 1)? else {
+        return Ok(false);
+    };
+    let Cell { content, style: _ } = cell;
+    match content {
+        Content::Formula(tree) => Ok(*tree.get() == fifth_row()),
+        _ => Ok(false),
     }
 }
 
 /// The formula stands on the second sheet, whatever this is called, so a row of the first sheet does
-/// not move its reference.
+/// not move its reference. The result is not tested, since both sheets have one name then.
 #[test]
 fn a_corner_without_a_name_goes_by_its_sheet(rt: HostRuntime) -> Result<(), Fail> {
     let alloc = rt.alloc();
     let tree = fifth_row();
     if has_canonical_numbers(&tree) {
         let list = changes(alloc, tree)?;
-        let book = forward(alloc, &empty_book(alloc)?, &list)?;
+        let mut book = empty_book(alloc)?;
+        forward_in_place(alloc, &mut book, &list)?;
         assert!(rt; has_fifth_row(&book)?);
     } else {
         assert!(rt; false);

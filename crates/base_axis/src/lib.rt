@@ -12,4 +12,4 @@ pub use area::Area;
 pub use axis::{Axis, ColumnAxis, RowAxis, outside};
 pub use axis_map::{AxisMap, LineKeys};
 pub use merge_list::MergeList;
-pub use merged_cell::MergedCell;
+pub use merged_cell::{MergedCell, last_of};

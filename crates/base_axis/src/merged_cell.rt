@@ -15,8 +15,8 @@ pub struct MergedCell {
     pub height: i32,
 }
 
-/// The last of so many lines.
-fn last_of(first: i32, count: i32) -> i64
+/// The last of so many lines from a first one on.
+pub fn last_of(first: i32, count: i32) -> i64
     ensures { result ≡ last_of first count }
 {
     i64::from(first) + (i64::from(count) - 1)

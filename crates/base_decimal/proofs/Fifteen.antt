@@ -11,7 +11,8 @@ use Rattle.std.proofs.lemmas.Nat.{pow-add, mod-mul-add, mul-le}
 use Rattle.base_decimal.specs.Digits.{is_digit, number_of, number_after}
 use Rattle.base_decimal.specs.Value.{fifteen_places}
 use Rattle.base_decimal.proofs.Prints.{number_after-append}
-use Rattle.base_decimal.proofs.Runs.{capped, zero_start, all_zero}
+use Rattle.base_tables.specs.laws.Counting.{capped}
+use Rattle.base_decimal.proofs.Runs.{zero_start, all_zero}
 use Rattle.base_decimal.proofs.Spans.{and_both, both_and}
 use Rattle.base_decimal.proofs.Values.{ten_pow, cancel, fifteen_found, fifteen_only}
 

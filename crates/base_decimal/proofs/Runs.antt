@@ -24,17 +24,6 @@ prefix_all p z = ap (λ (x : List ℕ × List ℕ). list_all p x.0) (sym (span_p
 
 pub ruleset spans = (span_prefix, prefix_all)
 
--- ---- capped numbers
-
-pub capped : (cap n m : ℕ) (s : List ℕ) → min n cap ≡ min m cap → min (number_after n s) cap ≡ min (number_after m s) cap
-capped cap n m [] e = e
-capped cap n m (b ∷ s) e = capped cap (n * 10 + (b - 48)) (m * 10 + (b - 48)) s (omega (arith, e))
-
-pub capped_turn : (most n i : ℕ) (s : List ℕ) → i < length s → min (number_after n (drop i s)) most ≡ min (number_after (min (n * 10 + (get_or s i 0 - 48)) most) (drop (i + 1) s)) most
-capped_turn most n i s h =
-    ap (λ (z : List ℕ). min (number_after n z) most) (drop-cons s i 0 h ∙ ap (λ (j : ℕ). get_or s i 0 ∷ drop j s) (sym (add-one i)))
-    ∙ capped most (n * 10 + (get_or s i 0 - 48)) (min (n * 10 + (get_or s i 0 - 48)) most) (drop (i + 1) s) (omega arith)
-
 -- ---- powers of ten
 
 pub ten_fits : (n : ℕ) → n ≤ 38 → (10 ^ n < 2 ^ 128) × (0 < 10 ^ n)

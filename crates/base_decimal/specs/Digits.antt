@@ -1,9 +1,6 @@
 -- Runs of digits, and the numbers that they write.
-use Rattle.std.specs.Prelude.{ℕ, ◌+◌, ◌-◌, ◌*◌, Bool, not, ◌&&◌, nat_le, true, List, [], ◌∷◌, if◌then◌else◌}
-
--- an ASCII digit
-abbrev pub is_digit : ℕ → Bool
-is_digit b = nat_le 48 b && nat_le b 57
+use Rattle.std.specs.Prelude.{ℕ, Bool, not, true, List, [], ◌∷◌, if◌then◌else◌}
+pub use Rattle.base_tables.specs.Word.{is_digit, number_after}
 
 -- the longest front whose bytes pass, and what follows it
 abbrev pub span : (ℕ → Bool) → List ℕ → List ℕ × List ℕ
@@ -14,11 +11,6 @@ span p (b ∷ text) = let s = span p text in if p b then (b ∷ s.0, s.1) else (
 abbrev pub stops : (ℕ → Bool) → List ℕ → Bool
 stops p [] = true
 stops p (b ∷ text) = not (p b)
-
--- the number that these digits write after those of n
-abbrev pub number_after : ℕ → List ℕ → ℕ
-number_after n [] = n
-number_after n (b ∷ digits) = number_after (n * 10 + (b - 48)) digits
 
 -- the number that digits write
 abbrev pub number_of : List ℕ → ℕ

@@ -1,29 +1,13 @@
-ghost use Rattle.std.specs.Prelude.{◌≡◌, ◌+◌, ◌-◌, ◌*◌, ◌^◌, ◌<◌, ◌≤◌, length, take, drop, min, true, IsTrue, ◌↔◌, ◌==◌, nat_lt, Some, None, IfSome, if◌then◌else◌};
-ghost use Rattle.std.specs.List.{prefix_len, list_all};
-ghost use Rattle.base_decimal.specs.Digits.{is_digit, span, number_of, number_after};
+ghost use Rattle.std.specs.Prelude.{◌≡◌, ◌+◌, ◌-◌, ◌*◌, ◌^◌, ◌<◌, ◌≤◌, length, take, drop, true, IsTrue, ◌↔◌, ◌==◌, nat_lt, Some, None, IfSome, if◌then◌else◌};
+ghost use Rattle.std.specs.List.{list_all};
+ghost use Rattle.base_decimal.specs.Digits.{is_digit, span};
 ghost use Rattle.base_decimal.specs.Value.{trim};
+
+use base_tables::digits_len;
 
 /// A number as large as this has more than 15 digits before the point, when it counts units of
 /// the fifteenth place after it.
 pub const LIMIT: u128 = 1_000_000_000_000_000_000_000_000_000_000;
-
-pub fn is_digit(b: u8) -> bool
-    ensures { result ≡ is_digit b }
-{
-    48 <= b && b <= 57
-}
-
-fn digits_len(text: &[u8]) -> usize
-    ensures value { result ≡ prefix_len is_digit text.now }
-    ensures within { result ≤ length text.now }
-{
-    for (at, b) in text.iter().enumerate() {
-        if !is_digit(*b) {
-            return at;
-        }
-    }
-    text.len()
-}
 
 /// The digits at the front of a text, and what follows them.
 #[tactic(auto, using(crate::proofs::Runs::spans))]
@@ -42,20 +26,6 @@ pub fn digit_value(digit: u8) -> u8
     ensures small { result < 10 }
 {
     digit - b'0'
-}
-
-/// The number that these digits write after those of `start`, or `LIMIT` where it is larger.
-pub fn capped_number(start: u128, digits: &[u8]) -> u128
-    requires bounded { start ≤ LIMIT }
-    requires digits { list_all is_digit digits.now ≡ true }
-    ensures number { result ≡ min (number_after start digits.now) LIMIT }
-    ensures bounded { result ≤ LIMIT }
-{
-    let mut number = start;
-    for digit in digits {
-        number = (number * 10 + u128::from(digit_value(*digit))).min(LIMIT);
-    }
-    number
 }
 
 /// Whether all digits are zeros.

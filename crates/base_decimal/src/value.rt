@@ -5,8 +5,9 @@ ghost use Rattle.base_decimal.specs.laws.Reading.{decimal_of, value_at};
 ghost use Rattle.base_decimal.specs.Value.{decimal_from, fifteen_places, canonical_of};
 
 use crate::decimal::{Decimal, from_parts};
-use crate::digits::{are_zero, capped_number, digits, raised, trim};
+use crate::digits::{LIMIT, are_zero, digits, raised, trim};
 use crate::numeral::{Scale, exponent, fraction};
+use base_tables::capped_number;
 
 /// Cuts this many digits off at the end, or all where there are fewer.
 #[tactic(auto, using(crate::proofs::Fifteen::front_all))]
@@ -37,7 +38,7 @@ fn at_fifteen(whole: &[u8], fraction: &[u8], scale: Scale) -> Option<u128>
     if !(are_zero(front_cut) && are_zero(back_cut)) {
         return None;
     }
-    let number = capped_number(capped_number(0, front), back);
+    let number = capped_number(capped_number(0, front, LIMIT), back, LIMIT);
     raised(number, up.saturating_sub(places))
 }
 

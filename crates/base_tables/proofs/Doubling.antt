@@ -5,13 +5,14 @@ use Rattle.std.proofs.lemmas.Grind.{flat_map-append}
 use Rattle.std.proofs.lemmas.Str.{encodes-append}
 use Rattle.base_tables.specs.Word.{twice, doubled}
 
-doubled_more : (text : List ℕ) (c : ℕ) → doubled (text ++ c ∷ []) ≡ doubled text ++ twice c
-doubled_more text c = flat_map-append twice text (c ∷ []) ∙ ap (λ (z : List ℕ). doubled text ++ z) (append-nil (twice c))
+doubled_more : (quote : ℕ) (text : List ℕ) (c : ℕ) → doubled quote (text ++ c ∷ []) ≡ doubled quote text ++ twice quote c
+doubled_more quote text c = flat_map-append (twice quote) text (c ∷ []) ∙ ap (λ (z : List ℕ). doubled quote text ++ z) (append-nil (twice quote c))
 
-pub doubled_turn : (old new before text : List ℕ) (c : ℕ) → before ≡ old ++ encode_utf8_all (doubled text) → new ≡ before ++ encode_utf8_all (twice c) → new ≡ old ++ encode_utf8_all (doubled (text ++ c ∷ []))
-doubled_turn old new before text c e f =
-    f ∙ ap (λ (z : List ℕ). z ++ encode_utf8_all (twice c)) e ∙ append_assoc old (encode_utf8_all (doubled text)) (encode_utf8_all (twice c))
-    ∙ ap (λ (z : List ℕ). old ++ z) (sym (encodes-append (doubled text) (twice c)) ∙ sym (ap encode_utf8_all (doubled_more text c)))
+pub doubled_turn : (quote : ℕ) (old new before text : List ℕ) (c : ℕ) → before ≡ old ++ encode_utf8_all (doubled quote text) → new ≡ before ++ encode_utf8_all (twice quote c)
+    → new ≡ old ++ encode_utf8_all (doubled quote (text ++ c ∷ []))
+doubled_turn quote old new before text c e f =
+    f ∙ ap (λ (z : List ℕ). z ++ encode_utf8_all (twice quote c)) e ∙ append_assoc old (encode_utf8_all (doubled quote text)) (encode_utf8_all (twice quote c))
+    ∙ ap (λ (z : List ℕ). old ++ z) (sym (encodes-append (doubled quote text) (twice quote c)) ∙ sym (ap encode_utf8_all (doubled_more quote text c)))
 
 -- a quote, the text and a quote, written one after the other
 pub quoted_bytes : (empty first next last text : List ℕ) → empty ≡ [] → first ≡ empty ++ encode_utf8 39 → next ≡ first ++ encode_utf8_all text → last ≡ next ++ encode_utf8 39 → last ≡ encode_utf8_all (39 ∷ text ++ 39 ∷ [])

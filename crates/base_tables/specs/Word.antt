@@ -78,13 +78,14 @@ reads_as_row_column (c ∷ text) = (c == 82 || c == 114) && (is_row_number (fron
 abbrev pub needs_quotes : List ℕ → Bool
 needs_quotes name = not (is_word name) || (reads_as_cell name || reads_as_row_column name)
 
--- a quote twice, and any other character once
-abbrev pub twice : ℕ → List ℕ
-twice c = if c == 39 then 39 ∷ 39 ∷ [] else c ∷ []
+-- the character as it stands between the quotes: the quote twice, any other once
+abbrev pub twice : ℕ → ℕ → List ℕ
+twice quote c = if c == quote then quote ∷ quote ∷ [] else c ∷ []
 
-abbrev pub doubled : List ℕ → List ℕ
-doubled = flat_map twice
+-- a text as it stands between the quotes
+abbrev pub doubled : ℕ → List ℕ → List ℕ
+doubled quote = flat_map (twice quote)
 
 -- a sheet name as it is printed
 unfoldable pub quoted_name : List ℕ → List ℕ
-quoted_name name = if needs_quotes name then 39 ∷ doubled name ++ 39 ∷ [] else name
+quoted_name name = if needs_quotes name then 39 ∷ doubled 39 name ++ 39 ∷ [] else name

@@ -1,4 +1,5 @@
 pub mod ColumnLaws
+pub mod Counting
 pub mod ErrorEquals
 pub mod FunctionEquals
 pub mod LanguageEquals

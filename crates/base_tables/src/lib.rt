@@ -4,6 +4,7 @@
 
 mod calendar;
 mod column;
+mod digits;
 mod error;
 mod folding;
 mod function;
@@ -17,11 +18,12 @@ mod zone;
 pub use column::{
     column_text, column_to_number, is_letter, letters_number, number_to_column, push_column,
 };
+pub use digits::{capped_number, digits_len, is_digit};
 pub use error::{Error, read_error};
 pub use folding::same_by_folding;
 pub use function::{Function, function_by_name};
 pub use language::{Language, get_language, read_boolean};
 pub use locale::{Locale, get_locale};
-pub use quote::{needs_quotes, quote_name, reads_as_cell, reads_as_row_column};
+pub use quote::{needs_quotes, push_doubled, quote_name, reads_as_cell, reads_as_row_column};
 pub use word::is_word;
 pub use zone::{Zone, get_zone};

@@ -1,20 +1,15 @@
-ghost use Rattle.std.specs.Prelude.{◌≡◌, ◌<◌, ◌≤◌, ◌^◌, ◌∷◌, ◌++◌, [], ◌&&◌, length, min, true, IfOk, OnOk, IsOkUnless, string_bytes, encode_utf8_all};
+ghost use Rattle.std.specs.Prelude.{◌≡◌, ◌<◌, ◌≤◌, ◌^◌, ◌∷◌, ◌++◌, [], ◌&&◌, length, true, IfOk, OnOk, IsOkUnless, string_bytes, encode_utf8_all};
 ghost use Rattle.std.specs.List.{list_all, prefix_len};
 ghost use Rattle.std.specs.Str.{chars};
 ghost use Rattle.base_values.specs.declared.error.EditError.TheVariants.{NoMemory};
 ghost use Rattle.base_tables.specs.Column.{is_letter, is_column_name};
-ghost use Rattle.base_tables.specs.Word.{is_digit, is_row_number, digits_number, starts_positive, is_count, front, behind, reads_as_cell, is_column_part, reads_as_row_column, needs_quotes, twice, doubled, quoted_name};
+ghost use Rattle.base_tables.specs.Word.{is_digit, is_row_number, starts_positive, is_count, front, behind, reads_as_cell, is_column_part, reads_as_row_column, needs_quotes, twice, doubled, quoted_name};
 
 use crate::column::{is_column_name, is_letter};
+use crate::digits::{capped_number, digits_len, is_digit};
 use crate::word::is_word;
 use base_values::EditError;
 use std::alloc::{AllocError, Global};
-
-fn is_digit(c: u8) -> bool
-    ensures { result ≡ is_digit c }
-{
-    b'0' <= c && c <= b'9'
-}
 
 fn letters_len(text: &[u8]) -> usize
     ensures value { result ≡ prefix_len is_letter text.now }
@@ -22,18 +17,6 @@ fn letters_len(text: &[u8]) -> usize
 {
     for (at, c) in text.iter().enumerate() {
         if !is_letter(*c) {
-            return at;
-        }
-    }
-    text.len()
-}
-
-fn digits_len(text: &[u8]) -> usize
-    ensures value { result ≡ prefix_len is_digit text.now }
-    ensures within { result ≤ length text.now }
-{
-    for (at, c) in text.iter().enumerate() {
-        if !is_digit(*c) {
             return at;
         }
     }
@@ -55,26 +38,15 @@ fn starts_positive(digits: &[u8]) -> bool
     }
 }
 
-/// The number that the digits write, or `cap` where it is larger.
-fn capped_number(digits: &[u8], cap: u64) -> u64
-    requires bounded { cap < 2 ^ 32 }
-    requires digits { list_all is_digit digits.now ≡ true }
-    ensures { result ≡ min (digits_number digits.now) cap }
-{
-    let mut number = 0;
-    for c in digits {
-        number = (number * 10 + u64::from(*c - b'0')).min(cap);
-    }
-    number
-}
-
 /// Whether the text is a number from 1 to `last` without a leading zero.
 #[tactic(auto, unfolding(crate::specs::Word::is_count))]
-fn is_count(text: &[u8], last: u64) -> bool
+fn is_count(text: &[u8], last: u32) -> bool
     requires { last < 2 ^ 31 }
     ensures { result ≡ is_count last text.now }
 {
-    are_digits(text) && starts_positive(text) && capped_number(text, last + 1) <= last
+    are_digits(text)
+        && starts_positive(text)
+        && capped_number(0, text, u128::from(last) + 1) <= u128::from(last)
 }
 
 #[tactic(auto, unfolding(crate::specs::Word::reads_as_cell))]
@@ -133,31 +105,32 @@ pub fn needs_quotes(name: &str) -> bool
     !is_word(name) || reads_as_cell(name) || reads_as_row_column(name)
 }
 
-fn push_twice(c: char, out: &mut String) -> Result<(), AllocError>
-    ensures { OnOk result (string_bytes out.new ≡ string_bytes out.old ++ encode_utf8_all (twice c)) }
+fn push_twice(quote: char, c: char, out: &mut String) -> Result<(), AllocError>
+    ensures { OnOk result (string_bytes out.new ≡ string_bytes out.old ++ encode_utf8_all (twice quote c)) }
 {
-    if c == '\'' {
-        out.push('\'')?;
+    if c == quote {
+        out.push(quote)?;
     }
     out.push(c)
 }
 
+/// Writes a text as it stands between such quotes: the quote twice, any other character once.
 #[tactic(auto, using(crate::proofs::Doubling::doubled_turn))]
-fn push_doubled(text: &str, out: &mut String) -> Result<(), AllocError>
-    ensures { OnOk result (string_bytes out.new ≡ string_bytes out.old ++ encode_utf8_all (doubled (chars text.now))) }
+pub fn push_doubled(quote: char, text: &str, out: &mut String) -> Result<(), AllocError>
+    ensures { OnOk result (string_bytes out.new ≡ string_bytes out.old ++ encode_utf8_all (doubled quote (chars text.now))) }
 {
     for c in text.chars() {
-        push_twice(c, out)?;
+        push_twice(quote, c, out)?;
     }
     Ok(())
 }
 
 fn quoted(alloc: Global, name: &str) -> Result<String, AllocError>
-    ensures { IfOk result (λ text. string_bytes text ≡ encode_utf8_all (39 ∷ doubled (chars name.now) ++ 39 ∷ [])) }
+    ensures { IfOk result (λ text. string_bytes text ≡ encode_utf8_all (39 ∷ doubled 39 (chars name.now) ++ 39 ∷ [])) }
 {
     let mut text = String::new(alloc);
     text.push('\'')?;
-    push_doubled(name, &mut text)?;
+    push_doubled('\'', name, &mut text)?;
     text.push('\'')?;
     Ok(text)
 }

@@ -3,7 +3,7 @@ use Rattle.std.proofs.Common.{ℤ, pos, ◌≤ℤ◌, Bool, ◌&&◌, Result, Ok
 use Rattle.std.specs.declared.cmp.Ordering.{Ordering}
 use Rattle.std.specs.Ordering.{int_cmp, int_eq, ordering_then}
 use Rattle.std.specs.Coded.{Coded, code_by, coded×, coded_ℤ}
-use Rattle.std.specs.Prelude.{int_le, if◌then◌else◌}
+use Rattle.std.specs.Prelude.{int_le, if◌then◌else◌, Option, Some, None}
 use Rattle.base_values.specs.declared.position.Position.{Position}
 use Rattle.base_values.specs.declared.error.EditError.{EditError}
 use Rattle.base_values.specs.declared.error.EditError.TheVariants.{InvalidRow, InvalidColumn}
@@ -43,6 +43,10 @@ is_line last line = int_le (pos 1) line && int_le line last
 -- whether a position is a place of a sheet
 abbrev pub is_place : Position → Bool
 is_place place = is_line (pos 1048576) place.row && is_line (pos 16384) place.column
+
+-- a line where it is one of an axis
+unfoldable pub as_line : ℤ → ℤ → Option ℤ
+as_line last line = if is_line last line then Some line else None
 
 -- a line of an axis, or the refusal of one outside
 unfoldable pub line_of : ℤ → ℤ → EditError → Result ℤ EditError

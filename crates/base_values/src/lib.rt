@@ -17,5 +17,7 @@ pub use exact::{Exact, copy_of, same};
 pub use items::Items;
 pub use key_map::{KeyMap, MapKey, SheetKey};
 pub use place_map::{PlaceKeys, PlaceMap};
-pub use position::{LAST_COLUMN, LAST_ROW, Position, is_line, is_place, line_of, place_of};
+pub use position::{
+    LAST_COLUMN, LAST_ROW, Position, as_line, is_line, is_place, line_of, place_of,
+};
 pub use text::Text;

@@ -1,6 +1,6 @@
 ghost use Rattle.std.specs.Prelude.{◌≡◌, ◌≢◌, Err, IfOk, IsTrue};
 ghost use Rattle.base_values.specs.declared.error.EditError.TheVariants.{NoMemory};
-ghost use Rattle.base_values.specs.Places.{IsLine, IsPlace, is_line, is_place, line_of, place_of};
+ghost use Rattle.base_values.specs.Places.{IsLine, IsPlace, as_line, is_line, is_place, line_of, place_of};
 
 use crate::error::EditError;
 use crate::exact::Exact;
@@ -40,6 +40,18 @@ pub fn is_place(place: Position) -> bool
     ensures { result ≡ is_place place }
 {
     is_line(LAST_ROW, place.row as i64) && is_line(LAST_COLUMN, place.column as i64)
+}
+
+/// A line where it is one of an axis that ends at `last`.
+#[tactic(auto, unfolding(crate::specs::Places::as_line))]
+pub fn as_line(last: i32, line: i64) -> Option<i32>
+    ensures value { result ≡ as_line last line }
+    ensures inside { IfSome result (IsLine last) }
+{
+    if !is_line(last, line) {
+        return None;
+    }
+    Some(line as i32)
 }
 
 /// A line of an axis that ends at `last`, or the refusal where it lies outside.

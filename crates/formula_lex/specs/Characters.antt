@@ -1,8 +1,9 @@
 -- Characters and runs of them, as tokens are made of. Texts are here lists of characters.
-use Rattle.std.specs.Prelude.{ℕ, ◌==◌, Bool, ◌||◌, List, [], ◌∷◌, if◌then◌else◌, flat_map}
+use Rattle.std.specs.Prelude.{ℕ, ◌==◌, Bool, ◌||◌, List}
 use Rattle.base_tables.specs.declared.Locale.{Locale}
 use Rattle.base_tables.specs.Locale.{decimal_sign}
 use Rattle.base_tables.specs.Word.{goes_on_word}
+pub use Rattle.base_tables.specs.Word.{twice, doubled}
 
 abbrev pub Text : Type 0
 Text = List ℕ
@@ -22,11 +23,3 @@ goes_on_name c = goes_on_word c || c == 33
 -- before which no number ends: a character of a word, and the decimal sign, which is no token of its own where it is a comma
 abbrev pub goes_on_number : Locale → ℕ → Bool
 goes_on_number locale c = goes_on_word c || c == decimal_sign locale
-
--- the character as it stands between the quotes: the quote twice, any other once
-abbrev pub twice : ℕ → ℕ → Text
-twice quote c = if c == quote then quote ∷ quote ∷ [] else c ∷ []
-
--- a text as it stands between the quotes
-abbrev pub doubled : ℕ → Text → Text
-doubled quote = flat_map (twice quote)

@@ -1,13 +1,13 @@
-ghost use Rattle.std.specs.Prelude.{◌≡◌, ◌<◌, ◌^◌, min, true};
+ghost use Rattle.std.specs.Prelude.{◌≡◌, true};
 ghost use Rattle.std.specs.List.{list_all};
 ghost use Rattle.std.specs.Str.{chars};
-ghost use Rattle.base_tables.specs.Word.{is_digit, digits_number};
+ghost use Rattle.base_tables.specs.Word.{is_digit};
 ghost use Rattle.formula_lex.specs.Lexicon.{row_of_name};
 ghost use Rattle.formula_lex.specs.laws.Lex as spec;
 ghost use Rattle.formula_lex.specs.laws.Outcome.{seen};
 
 use crate::characters::{Class, dollar, ends_place, past, run};
-use base_tables::column_to_number;
+use base_tables::{capped_number, column_to_number};
 use base_values::{LAST_COLUMN, LAST_ROW};
 use formula_grammar::CellMark;
 
@@ -34,22 +34,8 @@ pub enum Spot {
     Range(CellMark, CellMark),
 }
 
-/// The number that digits write, or `cap` where it is larger.
-#[tactic(auto, using(base_tables::proofs::Counting::capped_turn), unfolding(base_tables::specs::Word::digits_number))]
-fn capped_number(digits: &[u8], cap: u32) -> u32
-    requires bounded { cap < 2 ^ 24 }
-    requires digits { list_all is_digit digits.now ≡ true }
-    ensures { result ≡ min (digits_number digits.now) cap }
-{
-    let mut number = 0;
-    for digit in digits {
-        number = (number * 10 + u32::from(*digit - b'0')).min(cap);
-    }
-    number
-}
-
 /// The row that digits name.
-#[tactic(auto, unfolding(base_tables::specs::Word::is_count))]
+#[tactic(auto, unfolding(base_tables::specs::Word::is_count, base_tables::specs::Word::digits_number))]
 fn row_of(digits: &[u8]) -> Option<i32>
     requires { list_all is_digit digits.now ≡ true }
     ensures { result ≡ row_of_name digits.now }
@@ -58,7 +44,7 @@ fn row_of(digits: &[u8]) -> Option<i32>
         [] | [b'0', ..] => return None,
         _ => {}
     }
-    let number = capped_number(digits, 1_048_577) as i32;
+    let number = capped_number(0, digits, 1_048_577) as i32;
     if number <= LAST_ROW {
         Some(number)
     } else {

@@ -3,7 +3,8 @@ use Rattle.std.proofs.Common.{◌≡◌, ℤ, pos, ◌+ℤ◌, ◌-ℤ◌, ◌�
 use Rattle.std.proofs.lemmas.Int.{ints}
 use Rattle.std.specs.Prelude.{int_lt, int_le}
 use Rattle.std.specs.Ordering.{int_eq}
-use Rattle.formula_move.specs.Lines.{within, goes_on, steps}
+use Rattle.base_values.specs.Places.{as_line}
+use Rattle.formula_move.specs.Lines.{goes_on, steps}
 
 before : (a b : ℤ) → a <ℤ b → int_lt a b ≡ true
 before a b less = grind (arith, ints)
@@ -27,19 +28,19 @@ higher_line : (a b : ℤ) → b <ℤ a → int_eq a b ≡ false
 higher_line a b less = grind (arith, ints)
 
 -- a line that is not lost goes on
-pub shifted_on : (last first delta line end n : ℤ) → end ≡ last → first ≤ℤ line → (first -ℤ delta) ≤ℤ line → n ≡ line +ℤ delta → within end n ≡ goes_on last first delta line
+pub shifted_on : (last first delta line end n : ℤ) → end ≡ last → first ≤ℤ line → (first -ℤ delta) ≤ℤ line → n ≡ line +ℤ delta → as_line end n ≡ goes_on last first delta line
 unfolding goes_on
-shifted_on last first delta line end n at_end from kept same = rw (not_before line first from, not_before line (first -ℤ delta) kept) (λ i. within (at_end i) (same i))
+shifted_on last first delta line end n at_end from kept same = rw (not_before line first from, not_before line (first -ℤ delta) kept) (λ i. as_line (at_end i) (same i))
 
 -- the moved line goes to its target
-pub stepped_moved : (last moved delta line end n : ℤ) → end ≡ last → line ≡ moved → n ≡ line +ℤ delta → within end n ≡ steps last moved delta line
+pub stepped_moved : (last moved delta line end n : ℤ) → end ≡ last → line ≡ moved → n ≡ line +ℤ delta → as_line end n ≡ steps last moved delta line
 unfolding steps
-stepped_moved last moved delta line end n at_end at same = rw (one_line line moved at) (λ i. within (at_end i) (same i))
+stepped_moved last moved delta line end n at_end at same = rw (one_line line moved at) (λ i. as_line (at_end i) (same i))
 
 -- a line that is passed downwards goes up
-pub stepped_up : (last moved delta line end n : ℤ) → end ≡ last → moved <ℤ line → line ≤ℤ (moved +ℤ delta) → n ≡ line -ℤ pos 1 → within end n ≡ steps last moved delta line
+pub stepped_up : (last moved delta line end n : ℤ) → end ≡ last → moved <ℤ line → line ≤ℤ (moved +ℤ delta) → n ≡ line -ℤ pos 1 → as_line end n ≡ steps last moved delta line
 unfolding steps
-stepped_up last moved delta line end n at_end after upto same = rw (higher_line line moved after, before moved line after, up_to line (moved +ℤ delta) upto) (λ i. within (at_end i) (same i))
+stepped_up last moved delta line end n at_end after upto same = rw (higher_line line moved after, before moved line after, up_to line (moved +ℤ delta) upto) (λ i. as_line (at_end i) (same i))
 
 -- a line below both ends stays
 pub stepped_below : (last moved delta line stays : ℤ) → stays ≡ line → moved <ℤ line → (moved +ℤ delta) <ℤ line → Some stays ≡ steps last moved delta line
@@ -49,7 +50,7 @@ stepped_below last moved delta line stays same after past =
     rw (higher_line line moved after, before moved line after, beyond line (moved +ℤ delta) past) (grind (arith, ints))
 
 -- a line that is passed upwards goes down
-pub stepped_down : (last moved delta line end n : ℤ) → end ≡ last → line <ℤ moved → (moved +ℤ delta) ≤ℤ line → n ≡ line +ℤ pos 1 → within end n ≡ steps last moved delta line
+pub stepped_down : (last moved delta line end n : ℤ) → end ≡ last → line <ℤ moved → (moved +ℤ delta) ≤ℤ line → n ≡ line +ℤ pos 1 → as_line end n ≡ steps last moved delta line
 unfolding steps
 stepped_down last moved delta line end n at_end earlier from same = grind (arith, ints)
 

@@ -1,18 +1,8 @@
 ghost use Rattle.std.specs.Prelude.{◌≡◌, IfSome};
-ghost use Rattle.base_values.specs.Places.{IsLine};
-ghost use Rattle.formula_move.specs.Lines.{within, goes_on, steps, shifted, stepped};
+ghost use Rattle.base_values.specs.Places.{IsLine, as_line};
+ghost use Rattle.formula_move.specs.Lines.{goes_on, steps, shifted, stepped};
 
-/// A line where it is one of an axis that ends at `last`.
-#[tactic(auto, unfolding(crate::specs::Lines::within))]
-fn within(last: i32, line: i64) -> Option<i32>
-    ensures line { result ≡ within last line }
-    ensures inside { IfSome result (IsLine last) }
-{
-    if line < 1 || line > i64::from(last) {
-        return None;
-    }
-    Some(line as i32)
-}
+use base_values::as_line;
 
 /// Where a line of the axis goes when the lines from `first` on go on by `delta`.
 #[tactic(auto, unfolding(crate::specs::Lines::goes_on))]
@@ -27,7 +17,7 @@ fn goes_on(last: i32, first: i32, delta: i32, line: i32) -> Option<i32>
     } else if from < first - delta {
         None
     } else {
-        within(last, from + delta)
+        as_line(last, from + delta)
     }
 }
 
@@ -40,16 +30,16 @@ fn steps(last: i32, moved: i32, delta: i32, line: i32) -> Option<i32>
     let (from, moved, delta) = (i64::from(line), i64::from(moved), i64::from(delta));
     let target = moved + delta;
     if from == moved {
-        return within(last, target);
+        return as_line(last, target);
     }
     if moved < from {
         if from <= target {
-            return within(last, from - 1);
+            return as_line(last, from - 1);
         }
         return Some(line);
     }
     if target <= from {
-        return within(last, from + 1);
+        return as_line(last, from + 1);
     }
     Some(line)
 }
@@ -61,7 +51,7 @@ pub fn shifted(last: i32, first: i32, delta: i32, line: i64) -> Option<i32>
     ensures line { result ≡ shifted last first delta line }
     ensures inside { IfSome result (IsLine last) }
 {
-    goes_on(last, first, delta, within(last, line)?)
+    goes_on(last, first, delta, as_line(last, line)?)
 }
 
 /// Where a line goes when the line `moved` goes on by `delta`: each line that it passes goes one line
@@ -70,5 +60,5 @@ pub fn stepped(last: i32, moved: i32, delta: i32, line: i64) -> Option<i32>
     ensures line { result ≡ stepped last moved delta line }
     ensures inside { IfSome result (IsLine last) }
 {
-    steps(last, moved, delta, within(last, line)?)
+    steps(last, moved, delta, as_line(last, line)?)
 }

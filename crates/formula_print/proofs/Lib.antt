@@ -1,4 +1,3 @@
-pub mod Doubling
 pub mod FirstPlaces
 pub mod Joins
 pub mod Numbers

@@ -1,5 +1,5 @@
 -- The parts of a formula's text that hold no tree. Texts are here lists of bytes.
-use Rattle.std.specs.Prelude.{ℕ, ◌==◌, if◌then◌else◌, List, [], ◌∷◌, ◌++◌, codes, encode_utf8, encode_utf8_all}
+use Rattle.std.specs.Prelude.{ℕ, if◌then◌else◌, List, [], ◌∷◌, ◌++◌, codes, encode_utf8, encode_utf8_all}
 use Rattle.std.specs.List.{flat_map}
 use Rattle.std.specs.Str.{chars}
 use Rattle.base_tables.specs.declared.Function.{Function}
@@ -8,6 +8,7 @@ use Rattle.base_tables.specs.declared.Locale.{Locale}
 use Rattle.base_tables.specs.Locale.{decimal_sign, argument_separator, row_separator, column_separator}
 use Rattle.base_tables.specs.Language.{boolean_text}
 use Rattle.base_tables.specs.Function.{function_name}
+use Rattle.base_tables.specs.Word.{doubled}
 use Rattle.base_tables.specs.Error.{error_text}
 use Rattle.base_decimal.specs.Printed.{printed as decimal_text}
 use Rattle.formula_tree.specs.declared.ArrayItem.{ArrayItem}
@@ -25,17 +26,9 @@ use Rattle.formula_print.specs.declared.style.Style.{Style}
 use Rattle.formula_print.specs.declared.style.Dialect.{Dialect}
 use Rattle.formula_print.specs.declared.style.Dialect.TheVariants.{Plain, Excel}
 
--- the character `"` twice, any other once
-abbrev pub twice : ℕ → List ℕ
-twice c = if c == 34 then 34 ∷ 34 ∷ [] else c ∷ []
-
--- a text with each `"` twice
-unfoldable pub doubled : List ℕ → List ℕ
-doubled text = encode_utf8_all (flat_map twice (chars text))
-
--- a text constant
+-- a text constant: in quotes, and each `"` in it twice
 abbrev pub text_constant : List ℕ → List ℕ
-text_constant text = codes "\"" ++ (doubled text ++ codes "\"")
+text_constant text = codes "\"" ++ (encode_utf8_all (doubled 34 (chars text)) ++ codes "\"")
 
 -- the word by which a function is called
 abbrev pub word_in : Dialect → Style → Function → List ℕ

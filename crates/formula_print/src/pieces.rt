@@ -1,42 +1,21 @@
-ghost use Rattle.std.specs.Prelude.{◌≡◌, ◌++◌, map, OnOk, string_bytes, encode_utf8, encode_utf8_all};
-ghost use Rattle.std.specs.Str.{chars};
-ghost use Rattle.std.specs.List.{flat_map};
+ghost use Rattle.std.specs.Prelude.{◌≡◌, ◌++◌, map, flat_map, OnOk, string_bytes};
 ghost use Rattle.base_tables.specs.Tables.{lowered};
 ghost use Rattle.formula_print.specs.Pieces as spec;
 
 use crate::number::push_number;
 use crate::style::{Dialect, Style};
-use base_tables::{Function, Locale};
+use base_tables::{Function, Locale, push_doubled};
 use base_values::{Items, Text};
 use formula_levels::Infix;
 use formula_tree::{ArrayItem, CompareKind, Parameter, ProductKind, SumKind};
 use std::alloc::AllocError;
-
-fn push_twice(c: char, out: &mut String) -> Result<(), AllocError>
-    ensures { OnOk result (string_bytes out.new ≡ string_bytes out.old ++ encode_utf8_all (spec.twice c)) }
-{
-    if c == '"' {
-        out.push('"')?;
-    }
-    out.push(c)
-}
-
-#[tactic(auto, using(crate::proofs::Doubling::doubled_turn))]
-fn push_doubled(text: &str, out: &mut String) -> Result<(), AllocError>
-    ensures { OnOk result (string_bytes out.new ≡ string_bytes out.old ++ spec.doubled text.now) }
-{
-    for c in text.chars() {
-        push_twice(c, out)?;
-    }
-    Ok(())
-}
 
 /// A text constant.
 pub(crate) fn push_text(text: &str, out: &mut String) -> Result<(), AllocError>
     ensures { OnOk result (string_bytes out.new ≡ string_bytes out.old ++ spec.text_constant text.now) }
 {
     out.push_str("\"")?;
-    push_doubled(text, out)?;
+    push_doubled('"', text, out)?;
     out.push_str("\"")
 }
 

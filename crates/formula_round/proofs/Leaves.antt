@@ -33,11 +33,11 @@ use Rattle.formula_tree.specs.declared.ProductKind.TheVariants as p
 use Rattle.formula_tree.specs.declared.SumKind.TheVariants as s
 use Rattle.formula_levels.specs.declared.Infix.{Infix}
 use Rattle.formula_levels.specs.declared.Infix.TheVariants as op
-use Rattle.formula_print.specs.Pieces.{doubled, text_constant, compare_sign, infix_sign}
+use Rattle.formula_print.specs.Pieces.{text_constant, compare_sign, infix_sign}
 use Rattle.formula_grammar.specs.declared.Token.TheVariants as t
 use Rattle.formula_grammar.specs.Operators.{compare_token, infix_token}
 use Rattle.formula_grammar.specs.Words.{separator_token, row_token}
-use Rattle.formula_lex.specs.Characters.{Text, goes_on_name, doubled as doubled_by}
+use Rattle.formula_lex.specs.Characters.{Text, goes_on_name, doubled}
 use Rattle.formula_lex.specs.Lexicon.{row_of_name, NoCell, NoRange, NoError}
 use Rattle.formula_round.proofs.Characters.{is_ascii, each_ascii, in_word, in_cell, ascii_word, ascii_starts, follows, follows_low, follow_parts}
 use Rattle.formula_round.proofs.Characters.{is_followed, ends_name, ends_text, ends_cell}
@@ -307,9 +307,8 @@ module _ {locale : Locale} {language : Language} where
   -- ---- texts
 
   pub text_part : (text : List ℕ) → IsUtf8 text → Part locale language (Followed locale) (text_constant text) (t.Text text ∷ [])
-  unfolding doubled
   text_part text utf8 =
-      let inside : Text = doubled_by 34 (chars text) in
+      let inside : Text = doubled 34 (chars text) in
       let characters : Text = 34 ∷ inside ++ 34 ∷ [] in
       let all : scalars characters ≡ true = doubled_scalars 34 (chars text) refl (scalars-chars text utf8) in
       let closed : encode_utf8_all (inside ++ 34 ∷ []) ≡ encode_utf8_all inside ++ codes "\"" =

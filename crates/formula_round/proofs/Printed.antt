@@ -1,6 +1,6 @@
 -- The printed text of a normal tree is its tokens.
 use Rattle.std.proofs.Common.{◌≡◌, ℕ, Bool, true, false, List, [], ◌∷◌, ◌++◌, refl, sym, ap, subst, ◌∙◌, append_assoc}
-use Rattle.std.specs.Prelude.{pos, not, ◌&&◌, codes, encode_utf8, if◌then◌else◌, int_le, nat_le, map, flat_map, Option, None}
+use Rattle.std.specs.Prelude.{pos, not, ◌&&◌, codes, encode_utf8, encode_utf8_all, if◌then◌else◌, int_le, nat_le, map, flat_map, Option, None}
 use Rattle.std.specs.List.{AllByRecursion, list_all}
 use Rattle.std.specs.Str.{chars, IsUtf8, is_utf8}
 use Rattle.std.proofs.lemmas.Bool.{and_from, and_parts}
@@ -13,7 +13,7 @@ use Rattle.base_tables.specs.Function.{function_name}
 use Rattle.base_tables.specs.Language.{boolean_text}
 use Rattle.base_tables.specs.Locale.{decimal_sign, argument_separator}
 use Rattle.base_tables.specs.Tables.{lowered}
-use Rattle.base_tables.specs.Word.{is_word, reads_as_cell}
+use Rattle.base_tables.specs.Word.{is_word, reads_as_cell, doubled}
 use Rattle.base_decimal.specs.declared.Decimal.{Decimal}
 use Rattle.base_decimal.specs.Canonical.{is_canonical}
 use Rattle.base_decimal.specs.Printed.{printed as decimal_text}
@@ -43,7 +43,7 @@ use Rattle.formula_print.specs.declared.Kind.TheVariants as k
 use Rattle.formula_print.specs.declared.Need.TheVariants as need
 use Rattle.formula_print.specs.Forms.{localized_text}
 use Rattle.formula_print.specs.Kinds.{level_of, is_lambda}
-use Rattle.formula_print.specs.Pieces.{doubled, text_constant, lines_text, array_text, parameter_part}
+use Rattle.formula_print.specs.Pieces.{text_constant, lines_text, array_text, parameter_part}
 use Rattle.formula_print.specs.Print.{Printed, print_layer, printed, plainly, in_parentheses, operand, infix_text, colon_text, unary_kind, unary_text}
 use Rattle.formula_print.specs.Print.{later_argument, arguments_text, lambda_text}
 use Rattle.formula_grammar.specs.declared.Profile.{Profile}
@@ -194,7 +194,7 @@ module _ (p : Profile) where
 
   text_spelt : (text : List ℕ) → is_utf8 text ≡ true → Piece p other (plainly k.Value (text_constant text)) (tokens.plainly k.Value (t.Text text ∷ []))
   text_spelt text utf8 =
-      let inside : List ℕ = doubled text ++ codes "\"" in
+      let inside : List ℕ = encode_utf8_all (doubled 34 (chars text)) ++ codes "\"" in
       plain_piece refl (before (Shown k.Value) (λ rest after. after.ended refl) (text_part text (IsUtf8-from_is_utf8 text utf8)))
       (starts_with 34 inside refl refl)
       (λ fit rest after. first_no_cell 34 inside rest (chars_front 34 inside refl) (no_cell_here 34 (chars inside ++ rest) refl))

@@ -1,7 +1,7 @@
 -- Where lines go under an edit.
 use Rattle.std.proofs.Common.{◌≡◌, ℤ, pos, ◌+ℤ◌, ◌-ℤ◌, Bool, true, Option, Some, None}
 use Rattle.std.specs.Prelude.{ℕ, negsuc, int_lt, int_le, ◌&&◌, if◌then◌else◌}
-use Rattle.base_values.specs.Places.{is_line}
+use Rattle.base_values.specs.Places.{is_line, as_line}
 use Rattle.line_edits.specs.declared.edit.EditKind.{EditKind}
 use Rattle.line_edits.specs.declared.edit.EditKind.TheVariants.{Insert, Delete, Move}
 
@@ -9,10 +9,6 @@ use Rattle.line_edits.specs.declared.edit.EditKind.TheVariants.{Insert, Delete, 
 abbrev pub amount : ℤ → ℕ
 amount (pos n) = n
 amount (negsuc n) = 0
-
--- the line, where it is one of the axis
-unfoldable pub within : ℤ → ℤ → Option ℤ
-within last n = if is_line last n then Some n else None
 
 -- whether a line is one of so many from the first of them on
 unfoldable pub is_in_block : ℤ → ℤ → ℤ → Bool
@@ -29,9 +25,9 @@ moved_by first count delta n =
 
 -- where a line of the axis goes. Lines before an insertion or a deletion stay
 unfoldable pub goes_to : ℤ → EditKind → ℤ → Option ℤ
-goes_to last (Insert first count) n = if int_lt n first then Some n else within last (n +ℤ count)
-goes_to last (Delete first count) n = if int_lt n first then Some n else if int_lt n (first +ℤ count) then None else within last (n -ℤ count)
-goes_to last (Move first count delta) n = within last (n +ℤ moved_by first count delta n)
+goes_to last (Insert first count) n = if int_lt n first then Some n else as_line last (n +ℤ count)
+goes_to last (Delete first count) n = if int_lt n first then Some n else if int_lt n (first +ℤ count) then None else as_line last (n -ℤ count)
+goes_to last (Move first count delta) n = as_line last (n +ℤ moved_by first count delta n)
 
 -- where a line goes: none for one that is lost, and for one that is not of the axis
 unfoldable pub image_at : ℤ → EditKind → ℤ → Option ℤ

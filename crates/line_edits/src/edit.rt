@@ -1,14 +1,14 @@
 ghost use Rattle.std.specs.Prelude.{◌≡◌, ◌&&◌, ◌≤ℤ◌, ◌+ℤ◌, ◌-ℤ◌, ℤ, pos, Bool, Some, IfSome, FitsSigned};
 ghost use Rattle.std.specs.Int.{w64};
-ghost use Rattle.base_values.specs.Places.{IsLine};
-ghost use Rattle.line_edits.specs.Edit.{image_at, goes_to, within, is_in_block, opposite_of, is_within, is_valid, IsValid};
+ghost use Rattle.base_values.specs.Places.{IsLine, as_line};
+ghost use Rattle.line_edits.specs.Edit.{image_at, goes_to, is_in_block, opposite_of, is_within, is_valid, IsValid};
 ghost use Rattle.line_edits.specs.Lost.{pushed_from, lost_from, lost_to, beside_lost};
 ghost use Rattle.line_edits.specs.Moves.{inserted_by, edit_moves};
 ghost use Rattle.line_edits.specs.Splits.{splits};
 
 use crate::line_map::LineMap;
-use base_axis::Axis;
-use base_values::{EditError, Exact, is_line};
+use base_axis::{Axis, last_of};
+use base_values::{EditError, Exact, as_line, is_line};
 use std::alloc::Global;
 use std::marker::PhantomData;
 
@@ -64,18 +64,6 @@ impl<A: Axis> Exact for LineEdit<A> {
     ghost equals = { λ a b. Decides-like _ (λ p i. record { kind = p.0 i; axis = a.axis }) (λ e. (ap (λ x. x.kind) e, refl)) (Decides-and _ _ (kind_equals a.kind b.kind) (own_value a.axis)) };
 }
 
-/// The line, where it is one of the axis.
-#[tactic(auto, unfolding(crate::specs::Edit::within))]
-pub fn within(last: i32, line: i64) -> Option<i32>
-    ensures value { result ≡ within last line }
-    ensures inside { IfSome result (IsLine last) }
-{
-    if !is_line(last, line) {
-        return None;
-    }
-    Some(line as i32)
-}
-
 /// Where a line of the axis goes when lines come.
 #[tactic(auto, unfolding(crate::specs::Edit::goes_to))]
 fn inserted(last: i32, first: i32, count: i32, line: i32) -> Option<i32>
@@ -86,7 +74,7 @@ fn inserted(last: i32, first: i32, count: i32, line: i32) -> Option<i32>
     if line < first {
         return Some(line);
     }
-    within(last, i64::from(line) + i64::from(count))
+    as_line(last, i64::from(line) + i64::from(count))
 }
 
 /// Where a line of the axis goes when the lines from `gone` on go.
@@ -102,7 +90,7 @@ fn deleted(last: i32, gone: i32, count: i32, line: i32) -> Option<i32>
     if i64::from(line) < i64::from(gone) + i64::from(count) {
         return None;
     }
-    within(last, i64::from(line) - i64::from(count))
+    as_line(last, i64::from(line) - i64::from(count))
 }
 
 /// Whether a line is one of so many from the first of them on.
@@ -141,15 +129,15 @@ pub(crate) fn passed(last: i32, first: i32, count: i32, delta: i32, line: i32) -
     ensures inside { IfSome result (IsLine last) }
 {
     if is_in_block(i64::from(first), i64::from(count), line) {
-        return within(last, i64::from(line) + i64::from(delta));
+        return as_line(last, i64::from(line) + i64::from(delta));
     }
     if is_passed_down(first, count, delta, line) {
-        return within(last, i64::from(line) + (0 - i64::from(count)));
+        return as_line(last, i64::from(line) + (0 - i64::from(count)));
     }
     if is_passed_up(first, delta, line) {
-        return within(last, i64::from(line) + i64::from(count));
+        return as_line(last, i64::from(line) + i64::from(count));
     }
-    within(last, i64::from(line))
+    as_line(last, i64::from(line))
 }
 
 /// Whether lines begin on a line of the axis, and are 1 to all lines.
@@ -217,13 +205,6 @@ fn pushed_from(last: i32, first: i32, count: i32) -> i64
 {
     let (first, pushed) = (i64::from(first), i64::from(last) - i64::from(count) + 1);
     if first < pushed { pushed } else { first }
-}
-
-/// The last of so many lines.
-fn last_of(first: i32, count: i32) -> i64
-    ensures { result ≡ (first +ℤ count) -ℤ pos 1 }
-{
-    i64::from(first) + i64::from(count) - 1
 }
 
 fn widened(line: i32) -> i64

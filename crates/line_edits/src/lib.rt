@@ -9,7 +9,7 @@ mod line_map;
 mod merged;
 mod places;
 
-pub use edit::{Block, EditKind, LineEdit, within};
+pub use edit::{Block, EditKind, LineEdit};
 pub use laws::{image_of_opposite, move_by_single_lines};
 pub use line_map::LineMap;
 pub use places::place_image;

@@ -3,11 +3,11 @@ use Rattle.std.specs.Prelude.{ℕ, zero, suc, ℤ, pos, ◌+ℤ◌, ◌-ℤ◌, 
 use Rattle.std.specs.FinMap.{FinMap, empty, get}
 use Rattle.std.specs.List.{cons_option}
 use Rattle.std.specs.Ordering.{int_cmp}
-use Rattle.base_values.specs.Places.{IsLine, is_line}
+use Rattle.base_values.specs.Places.{IsLine, is_line, as_line}
 use Rattle.base_axis.specs.Along.{Along}
 use Rattle.base_maps.specs.Carried.{if_there, map_at, moved_map, overlaid}
 use Rattle.line_edits.specs.declared.Block.{Block}
-use Rattle.line_edits.specs.Edit.{amount, within}
+use Rattle.line_edits.specs.Edit.{amount}
 use Rattle.line_edits.specs.Moves.{is_brought}
 use Rattle.line_map.specs.Keys.{KeysAre}
 use Rattle.line_routes.specs.Way.{Way, back, is_along}
@@ -23,7 +23,7 @@ line_goes b w n = if line_goes_along b w then w.moves.to n else Some n
 -- so many lines from a first one on, as far as they are lines of the axis
 abbrev pub lines_from : ℤ → ℤ → ℕ → List ℤ
 lines_from last first zero = []
-lines_from last first (suc more) = cons_option (within last (first +ℤ pos more)) (lines_from last first more)
+lines_from last first (suc more) = cons_option (as_line last (first +ℤ pos more)) (lines_from last first more)
 
 -- those of a block, if there is one
 abbrev pub block_lines : ℤ → Option Block → List ℤ

@@ -3,10 +3,11 @@
 ghost use Rattle.std.specs.Prelude.{◌≡◌, ◌+ℤ◌, ◌-ℤ◌, pos, IsOkUnless, OnOk, Some};
 ghost use Rattle.std.specs.Option.{option_copied};
 ghost use Rattle.std.specs.FinMap.{get};
+ghost use Rattle.base_values.specs.Places.{as_line};
 ghost use Rattle.base_values.specs.declared.EditError.TheVariants.{NoMemory};
 ghost use Rattle.base_maps.specs.Carried.{if_there, overlaid};
 ghost use Rattle.base_maps.specs.laws.Gathering.{with_made};
-ghost use Rattle.line_edits.specs.Edit.{amount, within};
+ghost use Rattle.line_edits.specs.Edit.{amount};
 ghost use Rattle.line_map.specs.Attributes.{block_lines, heir, heirs, line_brought, line_goes_along, LinesLie};
 ghost use Rattle.line_map.specs.laws.HeirLaws.{Filled};
 ghost use Rattle.line_routes.specs.Way.{way};
@@ -16,8 +17,8 @@ use crate::restored::put_copy;
 use crate::route_keys::RouteKeys;
 use base_axis::{Axis, AxisMap, LineKeys};
 use base_maps::NumberKeys;
-use base_values::{EditError, Exact};
-use line_edits::{Block, LineMap, within};
+use base_values::{EditError, Exact, as_line};
+use line_edits::{Block, LineMap};
 use line_routes::Route;
 
 /// Whether the lines of an axis go along a route: those of the edited axis of the edited sheet.
@@ -60,10 +61,10 @@ fn fill_line<B: Axis, V: Exact + Drop>(
     value: &V,
     map: &mut AxisMap<B, V>,
 ) -> Result<(), EditError>
-    ensures map { OnOk result (map.new ≡ with_made (if_there (within B.along.last line) (λ n. Some (n, value.now))) map.old) }
+    ensures map { OnOk result (map.new ≡ with_made (if_there (as_line B.along.last line) (λ n. Some (n, value.now))) map.old) }
     ensures only { IsOkUnless result NoMemory }
 {
-    match within(B::LAST, line) {
+    match as_line(B::LAST, line) {
         Some(line) => put_copy(line, value, map),
         None => Ok(()),
     }

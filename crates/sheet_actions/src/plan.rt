@@ -11,7 +11,7 @@ ghost use Rattle.sheet_actions.specs.GreatestLine.{greatest_line};
 ghost use Rattle.sheet_actions.specs.Planned.{splits_rectangle, splits_array, splits_merge, pushes_past, refusal_of, lines_planned};
 ghost use Rattle.sheet_actions.specs.Whole.{IsAllowed};
 
-use base_axis::{Axis, MergedCell, outside};
+use base_axis::{Axis, MergedCell, last_of, outside};
 use base_values::{EditError, Position, is_line};
 use line_edits::{EditKind, LineEdit};
 use sheet_grid::{Workbook, Worksheet, array_at};
@@ -46,12 +46,6 @@ fn pushes_past<A: Axis>(sheet: &Worksheet, count: i32) -> bool
     ensures { result ≡ pushes_past A.along count sheet.now }
 {
     is_past(A::LAST, sum(greatest_line::<A>(sheet), count))
-}
-
-fn last_of(first: i32, count: i32) -> i64
-    ensures { result ≡ last_of first count }
-{
-    i64::from(first) + (i64::from(count) - 1)
 }
 
 /// Whether so many lines from a first one on reach past the last one.

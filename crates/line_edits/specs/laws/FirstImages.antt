@@ -2,28 +2,28 @@
 use Rattle.std.proofs.Common.{◌≡◌, ℤ, pos, ◌+ℤ◌, ◌-ℤ◌, ◌≤ℤ◌, Bool, true, false, Option, Some, None, refl, arith, ap, sym, ◌∙◌}
 use Rattle.std.specs.Prelude.{int_lt, is_some, if◌then◌else◌}
 use Rattle.std.proofs.lemmas.Int.{ints}
-use Rattle.base_values.specs.Places.{IsLine}
+use Rattle.base_values.specs.Places.{IsLine, as_line}
 use Rattle.line_edits.specs.declared.edit.EditKind.{EditKind}
 use Rattle.line_edits.specs.declared.edit.EditKind.TheVariants.{Insert, Delete, Move}
-use Rattle.line_edits.specs.Edit.{within, goes_to, image_at, IsValid}
+use Rattle.line_edits.specs.Edit.{goes_to, image_at, IsValid}
 use Rattle.line_edits.specs.Lost.{pushed_from, lost_from, lost_to, is_lost, beside, beside_lost}
 use Rattle.line_edits.specs.Moves.{IsFirstImage, is_between}
 use Rattle.line_edits.specs.laws.Images.{IsWithin, insert_parts, delete_parts, move_parts, move_image, image_of_line, is_line-of}
 
 insert_lost : (last c k n : ℤ) → IsWithin last c k → is_lost (pushed_from last c k) last n ≡ true → goes_to last (Insert c k) n ≡ None
-unfolding goes_to within
+unfolding goes_to as_line
 insert_lost last c k n v h = grind (arith, ints)
 
 delete_lost : (last c k n : ℤ) → IsWithin last c k → is_lost c ((c +ℤ k) -ℤ pos 1) n ≡ true → goes_to last (Delete c k) n ≡ None
-unfolding goes_to within
+unfolding goes_to as_line
 delete_lost last c k n v h = grind (arith, ints)
 
 insert_kept : (last c k n : ℤ) → IsWithin last c k → IsLine last n → is_lost (pushed_from last c k) last n ≡ false → is_some (goes_to last (Insert c k) n) ≡ true
-unfolding goes_to within
+unfolding goes_to as_line
 insert_kept last c k n v h i = grind (arith, ints)
 
 delete_kept : (last c k n : ℤ) → IsWithin last c k → IsLine last n → is_lost c ((c +ℤ k) -ℤ pos 1) n ≡ false → is_some (goes_to last (Delete c k) n) ≡ true
-unfolding goes_to within
+unfolding goes_to as_line
 delete_kept last c k n v h i = grind (arith, ints)
 
 -- exactly the lines from the first to the last lost one have no image

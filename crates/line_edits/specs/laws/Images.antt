@@ -2,10 +2,10 @@
 use Rattle.std.proofs.Common.{◌≡◌, ℤ, pos, ◌+ℤ◌, ◌-ℤ◌, ◌≤ℤ◌, Bool, true, false, Option, Some, None, refl, arith, ap, sym, ◌∙◌}
 use Rattle.std.specs.Prelude.{IfSome, if◌then◌else◌}
 use Rattle.std.proofs.lemmas.Int.{ints}
-use Rattle.base_values.specs.Places.{IsLine, is_line}
+use Rattle.base_values.specs.Places.{IsLine, is_line, as_line}
 use Rattle.line_edits.specs.declared.edit.EditKind.{EditKind}
 use Rattle.line_edits.specs.declared.edit.EditKind.TheVariants.{Insert, Delete, Move}
-use Rattle.line_edits.specs.Edit.{within, is_in_block, moved_by, goes_to, image_at, opposite_of, is_within, is_valid, IsValid}
+use Rattle.line_edits.specs.Edit.{is_in_block, moved_by, goes_to, image_at, opposite_of, is_within, is_valid, IsValid}
 use Rattle.line_edits.specs.laws.Passing.{by_passing, of_block, passed_down, passed_up, stays_before, stays_behind}
 use Rattle.line_edits.specs.Moves.{inserted_by, is_brought}
 
@@ -50,7 +50,7 @@ valid_move last first count delta v = grind (arith, ints)
 -- ---- images
 
 inside : (last : ℤ) (kind : EditKind) (n m : ℤ) → image_at last kind n ≡ Some m → IsLine last m
-unfolding image_at goes_to within
+unfolding image_at goes_to as_line
 inside last (Insert c k) n m e = (grind (arith, ints), grind (arith, ints))
 inside last (Delete c k) n m e = (grind (arith, ints), grind (arith, ints))
 inside last (Move c k d) n m e = (grind (arith, ints), grind (arith, ints))
@@ -61,11 +61,11 @@ image_inside last kind n None e = tt
 image_inside last kind n (Some m) e = inside last kind n m e
 
 insert_back : (last c k n m : ℤ) → IsWithin last c k → image_at last (Insert c k) n ≡ Some m → image_at last (Delete c k) m ≡ Some n
-unfolding image_at goes_to within
+unfolding image_at goes_to as_line
 insert_back last c k n m v e = grind (arith, ints)
 
 delete_back : (last c k n m : ℤ) → IsWithin last c k → image_at last (Delete c k) n ≡ Some m → image_at last (Insert c k) m ≡ Some n
-unfolding image_at goes_to within
+unfolding image_at goes_to as_line
 delete_back last c k n m v e = grind (arith, ints)
 
 -- a line that goes on by how far it goes comes back
@@ -86,8 +86,8 @@ moved_inside last c k d v n on = by_passing c k d n (omega (arith, ints, v.amoun
     (λ h i. (omega (arith, ints, on.0), omega (arith, ints, on.1)))
     (λ h i. (omega (arith, ints, on.0), omega (arith, ints, on.1)))
 
-within_is : (last n m : ℤ) → within last n ≡ Some m → m ≡ n
-unfolding within
+within_is : (last n m : ℤ) → as_line last n ≡ Some m → m ≡ n
+unfolding as_line
 within_is last n m e = grind (arith, ints)
 
 line_of_image : (last : ℤ) (kind : EditKind) (n m : ℤ) → image_at last kind n ≡ Some m → is_line last n ≡ true
@@ -105,8 +105,8 @@ image_of_line last kind n h = rw h refl
 pub is_line-of : (last n : ℤ) → IsLine last n → is_line last n ≡ true
 is_line-of last n h = let a = h.0 in let b = h.1 in grind (arith, ints)
 
-pub within_of : (last n : ℤ) → is_line last n ≡ true → within last n ≡ Some n
-unfolding within
+pub within_of : (last n : ℤ) → is_line last n ≡ true → as_line last n ≡ Some n
+unfolding as_line
 within_of last n h = rw h refl
 
 move_back : (last c k d n m : ℤ) → IsMove last c k d → image_at last (Move c k d) n ≡ Some m → image_at last (Move (c +ℤ d) k (pos 0 -ℤ d)) m ≡ Some n
@@ -116,7 +116,7 @@ move_back last c k d n m v e =
     let there : m ≡ n +ℤ moved_by c k d n = within_is last (n +ℤ moved_by c k d n) m (sym (image_of_line last (Move c k d) n line) ∙ e) in
     let home : m +ℤ moved_by (c +ℤ d) k (pos 0 -ℤ d) m ≡ n = ap (λ x. x +ℤ moved_by (c +ℤ d) k (pos 0 -ℤ d) x) there ∙ moved_back c k d n v.amount.0 in
     image_of_line last (Move (c +ℤ d) k (pos 0 -ℤ d)) m (is_line-of last m (inside last (Move c k d) n m e))
-    ∙ ap (within last) home ∙ within_of last n line
+    ∙ ap (as_line last) home ∙ within_of last n line
 
 -- the opposite takes each line that has an image back
 pub image_back : (last : ℤ) (kind : EditKind) → IsValid last kind → (n m : ℤ) → image_at last kind n ≡ Some m → image_at last (opposite_of kind) m ≡ Some n

@@ -3,7 +3,7 @@ use Rattle.std.proofs.Common.{◌≡◌, ◌⊎◌, inl, inr, ℕ, ℤ, pos, ◌
 use Rattle.std.specs.Prelude.{◌&&◌, if◌then◌else◌, IfSome}
 use Rattle.std.proofs.lemmas.Int.{ints}
 use Rattle.base_values.specs.declared.Position.{Position}
-use Rattle.base_values.specs.Places.{IsLine, IsPlace, is_line}
+use Rattle.base_values.specs.Places.{IsLine, IsPlace, is_line, as_line}
 use Rattle.base_axis.specs.Along.{Along, rows, columns}
 use Rattle.formula_tree.specs.declared.Corner.{Corner}
 use Rattle.formula_tree.specs.declared.Node.TheVariants as node
@@ -13,7 +13,7 @@ use Rattle.formula_tree.specs.laws.CornerLaws.{corner_row-corner_to, corner_colu
 use Rattle.line_edits.specs.declared.edit.EditKind.{EditKind}
 use Rattle.line_edits.specs.declared.edit.EditKind.TheVariants.{Insert, Delete, Move}
 use Rattle.base_maps.specs.Carried.{if_there}
-use Rattle.line_edits.specs.Edit.{within, goes_to, image_at, IsValid}
+use Rattle.line_edits.specs.Edit.{goes_to, image_at, IsValid}
 use Rattle.line_edits.specs.Moves.{at_line, place_image, is_between}
 use Rattle.line_routes.specs.Trees.{corner_of, target, is_exposed, moved_corner, tree_carried}
 use Rattle.line_routes.specs.Way.{Way, IsWay, at}
@@ -27,7 +27,7 @@ abbrev KeepsOrder : (ℤ → Option ℤ) → Type 0
 KeepsOrder to = (m n k l : ℤ) → to m ≡ Some k → to n ≡ Some l → m ≤ℤ n → k ≤ℤ l
 
 edit_keeps_order : (last : ℤ) (kind : EditKind) → IsValid last kind → is_insertion_or_deletion kind ≡ true → KeepsOrder (image_at last kind)
-unfolding image_at goes_to within
+unfolding image_at goes_to as_line
 edit_keeps_order last (Insert c j) v h m n k l e f g = let w = insert_parts last c j v in let a = w.amount.0 in grind (arith, ints)
 edit_keeps_order last (Delete c j) v h m n k l e f g = let w = delete_parts last c j v in let a = w.amount.0 in grind (arith, ints)
 edit_keeps_order last (Move c j d) v h m n k l e f g = absurd (cc)

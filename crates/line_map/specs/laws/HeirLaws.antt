@@ -6,12 +6,12 @@ use Rattle.std.specs.Cmp.{int_cmp_total}
 use Rattle.std.specs.List.{cons_option, list_any}
 use Rattle.std.specs.Ordering.{int_cmp, eq_by_cmp}
 use Rattle.std.specs.FinMap.{FinMap, get, get-insert, int_cmp-IsAntisymmetric, same_map}
-use Rattle.base_values.specs.Places.{is_line}
+use Rattle.base_values.specs.Places.{is_line, as_line}
 use Rattle.base_axis.specs.Along.{Along}
 use Rattle.base_maps.specs.Carried.{if_there, overlaid}
 use Rattle.base_maps.specs.laws.Gathering.{get-map_at, get-overlaid, with_made}
 use Rattle.line_edits.specs.declared.Block.{Block}
-use Rattle.line_edits.specs.Edit.{amount, within, is_in_block}
+use Rattle.line_edits.specs.Edit.{amount, is_in_block}
 use Rattle.line_edits.specs.Moves.{is_brought}
 use Rattle.line_map.specs.Attributes.{block_lines, heirs, line_brought, lines_from}
 
@@ -25,7 +25,7 @@ abbrev is_among : List ℤ → ℤ → Bool
 is_among lines n = list_any (eq_by_cmp int_cmp n) lines
 
 in_block : (last first count n : ℤ) → is_among (lines_from last first (amount count)) n ≡ (is_in_block first count n && is_line last n)
-unfolding is_in_block within
+unfolding is_in_block as_line
 in_block last first (pos zero) n = grind (arith, ints)
 in_block last first (pos (suc i)) n = elim (is_line last (first +ℤ pos i)) as (λ t. is_line last (first +ℤ pos i) ≡ t →
     is_among (cons_option (if t then Some (first +ℤ pos i) else None) (lines_from last first i)) n ≡ (is_in_block first (pos (suc i)) n && is_line last n)) [
@@ -58,10 +58,10 @@ module _ {X : Type 0} where
 
   -- one more line has it
   pub filled_more : (last first : ℤ) (i : ℕ) (line : ℤ) (x : X) (old before after : FinMap int_cmp X) → line ≡ first +ℤ pos i →
-      Filled (lines_from last first i) (Some x) old before → after ≡ with_made (if_there (within last line) (λ n. Some (n, x))) before →
+      Filled (lines_from last first i) (Some x) old before → after ≡ with_made (if_there (as_line last line) (λ n. Some (n, x))) before →
       Filled (lines_from last first (suc i)) (Some x) old after
   filled_more last first i line x old before after is was now n =
-      ap (λ m. get m n) (now ∙ ap (λ line. with_made (if_there (within last line) (λ n. Some (n, x))) before) is) ∙ put (within last (first +ℤ pos i))
+      ap (λ m. get m n) (now ∙ ap (λ line. with_made (if_there (as_line last line) (λ n. Some (n, x))) before) is) ∙ put (as_line last (first +ℤ pos i))
     where
       put : (o : Option ℤ) → get (with_made (if_there o (λ n. Some (n, x))) before) n ≡
           (if is_among (cons_option o (lines_from last first i)) n then Some x else get old n)

@@ -2,10 +2,10 @@
 use Rattle.std.proofs.Common.{◌≡◌, ℤ, pos, ◌+ℤ◌, ◌-ℤ◌, ◌≤ℤ◌, Bool, true, false, Option, Some, refl, arith, ap, sym, ◌∙◌}
 use Rattle.std.specs.Prelude.{int_lt, ◌||◌, if◌then◌else◌}
 use Rattle.std.proofs.lemmas.Int.{ints}
-use Rattle.base_values.specs.Places.{IsLine}
+use Rattle.base_values.specs.Places.{IsLine, as_line}
 use Rattle.line_edits.specs.declared.EditKind.{EditKind}
 use Rattle.line_edits.specs.declared.EditKind.TheVariants.{Insert, Delete, Move}
-use Rattle.line_edits.specs.Edit.{within, moved_by, goes_to, image_at, IsValid}
+use Rattle.line_edits.specs.Edit.{moved_by, goes_to, image_at, IsValid}
 use Rattle.line_edits.specs.Merged.{pushed_on, cut_to, fallen_to, if_merge, merged_by}
 use Rattle.line_edits.specs.Splits.{splits}
 use Rattle.line_edits.specs.laws.Images.{IsWithin, IsMove, insert_parts, delete_parts, move_parts, move_image}
@@ -48,7 +48,7 @@ module _ (most c k first end across f l : ℤ) (v : IsWithin most c k) (a : IsLi
 
   -- the first line of a merge goes where its own line goes
   insert_first : merged_by most (Insert c k) first end across ≡ Some (f, l) → (m : ℤ) → image_at most (Insert c k) first ≡ Some m → m ≡ f
-  unfolding merged_by image_at goes_to within
+  unfolding merged_by image_at goes_to as_line
   insert_first h m i =
       let few = v.amount.0 in
       let left = left_from across (pushed_on c k first) (cut_to most (pushed_on c k end)) f l wide h in
@@ -56,7 +56,7 @@ module _ (most c k first end across f l : ℤ) (v : IsWithin most c k) (a : IsLi
       grind (arith, ints)
 
   delete_first : merged_by most (Delete c k) first end across ≡ Some (f, l) → (m : ℤ) → image_at most (Delete c k) first ≡ Some m → m ≡ f
-  unfolding merged_by image_at goes_to within
+  unfolding merged_by image_at goes_to as_line
   delete_first h m i =
       let few = v.amount.0 in
       let left = left_from across (fallen_to c k c first) (fallen_to c k (c -ℤ pos 1) end) f l wide h in

@@ -2,10 +2,10 @@
 use Rattle.std.proofs.Common.{◌≡◌, ℤ, pos, ◌+ℤ◌, ◌-ℤ◌, ◌≤ℤ◌, false, Option, Some, refl, arith, ap, sym, subst, ◌∙◌}
 use Rattle.std.specs.Prelude.{IfSome, int_lt, if◌then◌else◌}
 use Rattle.std.proofs.lemmas.Int.{ints}
-use Rattle.base_values.specs.Places.{IsLine}
+use Rattle.base_values.specs.Places.{IsLine, as_line}
 use Rattle.line_edits.specs.declared.EditKind.{EditKind}
 use Rattle.line_edits.specs.declared.EditKind.TheVariants.{Insert, Delete, Move}
-use Rattle.line_edits.specs.Edit.{within, moved_by, goes_to, image_at, IsValid, opposite_of}
+use Rattle.line_edits.specs.Edit.{moved_by, goes_to, image_at, IsValid, opposite_of}
 use Rattle.line_edits.specs.Splits.{splits}
 use Rattle.line_edits.specs.laws.Images.{IsWithin, IsMove, insert_parts, delete_parts, move_parts, image_back, image_inside, move_image}
 use Rattle.line_edits.specs.laws.MergedLaws.{goes_whole}
@@ -22,15 +22,15 @@ pub record Stood (kind : EditKind) (first last m : ℤ) : Type 0 where
   pub high : source kind m ≤ℤ last
 
 insert_source : (last c k n m : ℤ) → pos 1 ≤ℤ k → image_at last (Insert c k) n ≡ Some m → source (Insert c k) m ≡ n
-unfolding image_at goes_to within source
+unfolding image_at goes_to as_line source
 insert_source last c k n m few e = grind (arith, ints)
 
 delete_source : (last c k n m : ℤ) → pos 1 ≤ℤ k → image_at last (Delete c k) n ≡ Some m → source (Delete c k) m ≡ n
-unfolding image_at goes_to within source
+unfolding image_at goes_to as_line source
 delete_source last c k n m few e = grind (arith, ints)
 
 moved_to : (last c k d n m : ℤ) → image_at last (Move c k d) n ≡ Some m → n +ℤ moved_by c k d n ≡ m
-unfolding image_at goes_to within
+unfolding image_at goes_to as_line
 moved_to last c k d n m e = grind (arith, ints)
 
 move_source : (last c k d n m : ℤ) → IsValid last (Move c k d) → image_at last (Move c k d) n ≡ Some m → source (Move c k d) m ≡ n
@@ -66,11 +66,11 @@ pub record Whole (most : ℤ) (kind : EditKind) (first end n : ℤ) : Type 0 whe
 module _ (last first end n : ℤ) where
   module _ (c k m : ℤ) (few : pos 1 ≤ℤ k) (low : n ≤ℤ m) (high : m ≤ℤ (n +ℤ (end -ℤ first))) where
     whole_insert : Whole last (Insert c k) first end n → Stood (Insert c k) first end m
-    unfolding image_at goes_to within source splits
+    unfolding image_at goes_to as_line source splits
     whole_insert w = let whole = w.unsplit in let e = w.goes in let some = w.some in record { low = grind (arith, ints); high = grind (arith, ints) }
 
     whole_delete : Whole last (Delete c k) first end n → Stood (Delete c k) first end m
-    unfolding image_at goes_to within source splits
+    unfolding image_at goes_to as_line source splits
     whole_delete w = let whole = w.unsplit in let e = w.goes in let some = w.some in record { low = grind (arith, ints); high = grind (arith, ints) }
 
   module _ (c k d : ℤ) (v : IsMove last c k d) (w : Whole last (Move c k d) first end n) where
@@ -103,11 +103,11 @@ module _ (last first end n : ℤ) where
   whole_stood (Move c k d) v w m low high = whole_move c k d (move_parts last c k d v) w v m low high
 
   inside_insert : (c k : ℤ) → IsWithin last c k → Whole last (Insert c k) first end n → IsLine last n × ((n +ℤ (end -ℤ first)) ≤ℤ last)
-  unfolding image_at goes_to within
+  unfolding image_at goes_to as_line
   inside_insert c k v w = let few = v.amount.0 in let e = w.goes in let a = w.first_inside.0 in let b = w.room in let some = w.some in ((grind (arith, ints), grind (arith, ints)), grind (arith, ints))
 
   inside_delete : (c k : ℤ) → IsWithin last c k → Whole last (Delete c k) first end n → IsLine last n × ((n +ℤ (end -ℤ first)) ≤ℤ last)
-  unfolding image_at goes_to within
+  unfolding image_at goes_to as_line
   inside_delete c k v w = let few = v.amount.0 in let start = v.begins.0 in let e = w.goes in let a = w.first_inside.0 in let b = w.room in let some = w.some in ((grind (arith, ints), grind (arith, ints)), grind (arith, ints))
 
   inside_move : (c k d : ℤ) → IsMove last c k d → Whole last (Move c k d) first end n → IsLine last n × ((n +ℤ (end -ℤ first)) ≤ℤ last)

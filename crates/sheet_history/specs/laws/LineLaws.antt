@@ -11,7 +11,7 @@ use Rattle.std.proofs.lemmas.List.{length-map}
 use Rattle.std.proofs.lemmas.Map.Lookups.{CmpEqualImpliesEq, exact_signed, exact_unsigned}
 use Rattle.base_values.specs.declared.EditError.TheVariants.{DiffRefused}
 use Rattle.base_values.specs.declared.Position.{Position}
-use Rattle.base_values.specs.Places.{is_line, position_cmp, is_place}
+use Rattle.base_values.specs.Places.{is_line, position_cmp, is_place, as_line}
 use Rattle.base_values.specs.laws.Places.{position_total, exact_positions}
 use Rattle.base_axis.specs.declared.MergedCell.{MergedCell}
 use Rattle.base_axis.specs.contracts.merge_list.MergeListPartialEq.TheImpl as equality
@@ -28,7 +28,7 @@ use Rattle.format_rules.specs.declared.ConditionalFormatting.{ConditionalFormatt
 use Rattle.format_rules.specs.Fitting.{has_parts}
 use Rattle.line_edits.specs.declared.EditKind.{EditKind}
 use Rattle.line_edits.specs.declared.EditKind.TheVariants.{Insert, Delete, Move}
-use Rattle.line_edits.specs.Edit.{image_at, goes_to, within, opposite_of, IsValid}
+use Rattle.line_edits.specs.Edit.{image_at, goes_to, opposite_of, IsValid}
 use Rattle.base_maps.specs.Carried.{if_there, lost_map}
 use Rattle.line_map.specs.Contents.{cell_carried, cell_part}
 use Rattle.line_map.specs.Maps.{places_carried}
@@ -155,7 +155,7 @@ lines_inside a l sheet it = go l.one_of
 
 -- a line that an insertion takes somewhere is not pushed past the last line
 not_pushed : (last first count n m : ℤ) → image_at last (Insert first count) n ≡ Some m → not (int_le first n && int_lt last (n +ℤ count)) ≡ true
-unfolding image_at goes_to within
+unfolding image_at goes_to as_line
 not_pushed last first count n m h = grind (arith, ints)
 
 -- nor is a place

@@ -11,4 +11,4 @@ returns-else-from-first-2-clause-line c =
     let d = c.from-delta.ensures in
     let from = c.if-from-first.false in
     let kept = c.if-from-first-2.false in
-    c.within.ensures.line ∙ shifted_on c.args.last c.args.first c.args.delta c.args.line _ _ (omega (arith, ints)) (omega (arith, ints)) (omega (arith, ints)) (omega (arith, ints))
+    c.as_line.ensures.value ∙ shifted_on c.args.last c.args.first c.args.delta c.args.line _ _ (omega (arith, ints)) (omega (arith, ints)) (omega (arith, ints)) (omega (arith, ints))

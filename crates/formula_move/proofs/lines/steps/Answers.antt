@@ -10,7 +10,7 @@ returns-then-from-moved-clause-line c =
     let m = c.from-moved.ensures in
     let d = c.from-delta.ensures in
     let test = c.if-from-moved.true in
-    c.within.ensures.line ∙ stepped_moved c.args.last c.args.moved c.args.delta c.args.line _ _ (omega (arith, ints)) (omega (arith, ints)) (omega (arith, ints))
+    c.as_line.ensures.value ∙ stepped_moved c.args.last c.args.moved c.args.delta c.args.line _ _ (omega (arith, ints)) (omega (arith, ints)) (omega (arith, ints))
 
 pub returns-then-from-target-clause-line : goal.returns-then-from-target-clause-line
 returns-then-from-target-clause-line c =
@@ -20,7 +20,7 @@ returns-then-from-target-clause-line c =
     let d = c.from-delta.ensures in
     let after = c.if-moved-from.true in
     let reached = c.if-from-target.true in
-    c.within-then-from-target.ensures.line ∙ stepped_up c.args.last c.args.moved c.args.delta c.args.line _ _ (omega (arith, ints)) (omega (arith, ints)) (omega (arith, ints)) (omega (arith, ints))
+    c.as_line-then-from-target.ensures.value ∙ stepped_up c.args.last c.args.moved c.args.delta c.args.line _ _ (omega (arith, ints)) (omega (arith, ints)) (omega (arith, ints)) (omega (arith, ints))
 
 pub returns-then-moved-from-clause-line : goal.returns-then-moved-from-clause-line
 returns-then-moved-from-clause-line c =
@@ -41,7 +41,7 @@ returns-then-target-from-clause-line c =
     let other = c.if-from-moved.false in
     let not_after = c.if-moved-from.false in
     let reached = c.if-target-from.true in
-    c.within-then-target-from.ensures.line ∙ stepped_down c.args.last c.args.moved c.args.delta c.args.line _ _ (omega (arith, ints)) (omega (arith, ints)) (omega (arith, ints)) (omega (arith, ints))
+    c.as_line-then-target-from.ensures.value ∙ stepped_down c.args.last c.args.moved c.args.delta c.args.line _ _ (omega (arith, ints)) (omega (arith, ints)) (omega (arith, ints)) (omega (arith, ints))
 
 pub returns-clause-line : goal.returns-clause-line
 returns-clause-line c =

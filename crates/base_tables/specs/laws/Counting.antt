@@ -2,7 +2,8 @@
 use Rattle.std.proofs.Common.{◌≡◌, ℕ, ◌+◌, ◌*◌, ◌-◌, ◌<◌, min, List, [], ◌∷◌, length, get_or, drop, drop-cons, add-one, ap, sym, ◌∙◌, arith}
 use Rattle.base_tables.specs.Word.{number_after}
 
-capped : (cap n m : ℕ) (digits : List ℕ) → min n cap ≡ min m cap → min (number_after n digits) cap ≡ min (number_after m digits) cap
+-- a start that is as large as the bound may be cut off
+pub capped : (cap n m : ℕ) (digits : List ℕ) → min n cap ≡ min m cap → min (number_after n digits) cap ≡ min (number_after m digits) cap
 capped cap n m [] e = e
 capped cap n m (c ∷ digits) e = capped cap (n * 10 + (c - 48)) (m * 10 + (c - 48)) digits (omega (arith, e))
 

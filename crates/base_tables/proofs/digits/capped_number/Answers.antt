@@ -1,11 +1,7 @@
-use Rattle.std.proofs.Common.{◌≡◌, ◌+◌, ◌*◌, ◌-◌, ℕ, min, drop, get_or, refl, sym, ap, ◌∙◌, arith}
-use Rattle.base_tables.specs.Word.{digits_number, number_after}
-use Rattle.base_tables.proofs.Counting.{capped_turn}
-use Rattle.base_tables.proofs.quote.capped_number.Goals as goal
-
-pub loop-c-init : goal.loop-c-init
-unfolding digits_number
-loop-c-init c = record { so_far = refl; small = omega arith }
+use Rattle.std.proofs.Common.{◌≡◌, ◌+◌, ◌*◌, ◌-◌, ℕ, min, drop, get_or, sym, ap, ◌∙◌, arith}
+use Rattle.base_tables.specs.Word.{number_after}
+use Rattle.base_tables.specs.laws.Counting.{capped_turn}
+use Rattle.base_tables.proofs.digits.capped_number.Goals as goal
 
 pub loop-c-preserved : goal.loop-c-preserved
 loop-c-preserved c =

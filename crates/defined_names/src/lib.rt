@@ -13,3 +13,4 @@ mod of_sheets;
 pub use defined_name::DefinedName;
 pub use legal::is_defined_name;
 pub use name_list::NameList;
+pub use of_sheets::put_name;

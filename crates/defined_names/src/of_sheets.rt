@@ -131,8 +131,12 @@ fn names_copied(
     Ok(copied)
 }
 
-/// Puts a name at a place, or behind the others where they are fewer.
-fn put_name(names: &mut Vec<DefinedName>, place: u64, name: DefinedName) -> Result<(), EditError>
+/// Puts a name at a place, or behind the others where they are fewer. `NoMemory` alone is an error.
+pub fn put_name(
+    names: &mut Vec<DefinedName>,
+    place: u64,
+    name: DefinedName,
+) -> Result<(), EditError>
     ensures names { OnOk result (names.new.items ≡ insert names.old.items place name) }
     ensures only { IsOkUnless result NoMemory }
 {

@@ -1,5 +1,5 @@
 -- The texts that are formulas, and their trees.
-use Rattle.std.specs.Prelude.{◌≡◌, ℕ, true, false, List, Option, unwrap_or}
+use Rattle.std.specs.Prelude.{◌≡◌, ◌==◌, ℕ, true, false, List, [], ◌∷◌, Option, unwrap_or, if◌then◌else◌}
 use Rattle.std.specs.Option.{option_and_then}
 use Rattle.std.specs.Str.{chars}
 use Rattle.base_tables.specs.declared.Language.{Language}
@@ -19,6 +19,11 @@ use Rattle.formula_lex.specs.Lexicon.{IsTokens}
 -- what the reading of a formula in a cell depends on
 abbrev pub profile_of : CellReferenceRC → Locale → Language → Profile
 profile_of context locale language = record { place = context_place context; locale = locale; language = language }
+
+-- a formula's text without an equals sign that leads it
+abbrev pub without_equals : List ℕ → List ℕ
+without_equals [] = []
+without_equals (c ∷ rest) = if c == 61 then rest else c ∷ rest
 
 -- the text, as its bytes, is a formula with this tree: its tokens derive it
 pub record IsFormula (p : Profile) (text : List ℕ) (tree : Node) : Type 0 where

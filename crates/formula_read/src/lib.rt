@@ -4,4 +4,4 @@
 
 mod read;
 
-pub use read::{read_formula, text_has_one_tree};
+pub use read::{read_formula, text_has_one_tree, without_equals};

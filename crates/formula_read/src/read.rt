@@ -9,7 +9,7 @@ ghost use Rattle.formula_tree.specs.ParseError.{is_parse_error};
 ghost use Rattle.formula_tree.specs.Placed.{is_placed};
 ghost use Rattle.formula_grammar.specs.declared.Profile.{Profile as AnyProfile};
 ghost use Rattle.formula_tree.specs.Context.{context_place};
-ghost use Rattle.formula_read.specs.Formula.{IsFormula, IsRead, found_tree, formula_of, profile_of};
+ghost use Rattle.formula_read.specs.Formula.{IsFormula, IsRead, found_tree, formula_of, profile_of, without_equals};
 
 use base_tables::{Language, Locale};
 use base_values::{EditError, Text};
@@ -17,6 +17,16 @@ use formula_grammar::{Profile, read_tokens, tokens_derive_one_tree};
 use formula_lex::{lex_text, text_spells_one_list};
 use formula_tree::{CellReferenceRC, Node};
 use std::alloc::Global;
+
+/// A formula's text without an equals sign that leads it.
+pub fn without_equals(text: &str) -> &str
+    ensures { result.now ≡ without_equals text.now }
+{
+    match text.strip_prefix("=") {
+        Some(rest) => rest,
+        None => text,
+    }
+}
 
 /// The tree of a formula's text, if it is one.
 fn tree_of(alloc: Global, text: &str, profile: Profile) -> Result<Option<Node>, EditError>

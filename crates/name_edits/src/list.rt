@@ -1,14 +1,13 @@
 //! The list of the defined names after a change.
 
 ghost use Rattle.std.specs.Prelude.{◌≡◌, ◌<◌, length, true, IfOk, IfSome, IsOkUnless, OnOk};
-ghost use Rattle.std.specs.List.{insert, remove};
 ghost use Rattle.base_values.specs.declared.EditError.TheVariants.{NoMemory};
 ghost use Rattle.name_edits.specs.NameChanges.{IsCanonicalChange, name_come, name_gone, names_changed};
 ghost use Rattle.name_edits.specs.NameDiffs.{has_place};
 
 use crate::name_change::NameChange;
 use base_values::{EditError, Items, copy_of};
-use defined_names::{DefinedName, NameList};
+use defined_names::{DefinedName, NameList, put_name};
 use std::alloc::Global;
 
 fn copied(alloc: Global, names: &[DefinedName]) -> Result<Items<DefinedName>, EditError>
@@ -35,16 +34,6 @@ fn without_old(
         let _gone = names.remove(index as usize);
     }
     names
-}
-
-/// Puts a name at an index, or behind the others where they are fewer.
-fn put_name(names: &mut Vec<DefinedName>, index: u64, name: DefinedName) -> Result<(), EditError>
-    ensures names { OnOk result (names.new.items ≡ insert names.old.items index name) }
-    ensures only { IsOkUnless result NoMemory }
-{
-    let at = names.len().min(index as usize);
-    names.insert(at, name)?;
-    Ok(())
 }
 
 /// The names with a copy of another one at an index, if one comes.

@@ -11,12 +11,10 @@ use Rattle.base_axis.specs.Along.{Along, rows, columns}
 use Rattle.base_axis.specs.Rectangles.{first_line, line_count}
 use Rattle.base_styles.specs.declared.Style.{Style}
 use Rattle.base_styles.specs.DefaultStyle.{default_style}
-use Rattle.cell_content.specs.declared.Content.{Content}
-use Rattle.cell_content.specs.declared.Content.TheVariants.{Empty}
 use Rattle.sheet_grid.specs.declared.Cell.{Cell}
 use Rattle.sheet_grid.specs.declared.LineAttr.{LineAttr}
 use Rattle.sheet_grid.specs.Lines.{attr_of, stored_line, own_line_style, with_style}
-use Rattle.sheet_grid.specs.Sheet.{Sheet, shown_style}
+use Rattle.sheet_grid.specs.Sheet.{Sheet, shown_style, content_of}
 use Rattle.sheet_grid.specs.DefaultParts.{is_default}
 use Rattle.range_styles.specs.declared.plan.SheetPlan.{SheetPlan}
 use Rattle.range_styles.specs.declared.range.StyleRange.{StyleRange}
@@ -31,11 +29,6 @@ abbrev pub Accepts : Type 0
 Accepts = Position → Style → Bool
 
 -- ---- cells
-
--- the content of a cell; a place without a cell has none
-abbrev pub content_of : Option Cell → Content
-content_of None = Empty
-content_of (Some cell) = cell.content
 
 -- a cell with another style; a place without a cell gets one without a content
 abbrev pub styled_cell : Option Cell → Style → Cell

@@ -12,7 +12,7 @@ ghost use Rattle.range_styles.specs.laws.StoredWalks.{stored_pass};
 use crate::change::StyleChange;
 use crate::lines::accepts_lines;
 use crate::range::{StyleRange, is_small, reaches_all, reaches_columns, reaches_rows};
-use crate::shown::{has_own_style, shown_style, touches};
+use crate::shown::{has_own_style, touches};
 use crate::walk::has_line;
 use base_axis::{Axis, AxisMap, RowAxis};
 use base_values::Position;
@@ -30,7 +30,7 @@ fn accepts_place<C: StyleChange>(
     ensures { result ≡ place_accepts range (C.takes change.now) sheet.now place }
 {
     !touches(range, sheet, plain, place)
-        || change.accepts(place, shown_style(sheet, plain, place).get())
+        || change.accepts(place, sheet.shown_style_at(place, plain).get())
 }
 
 /// The same of the places of a line.

@@ -13,11 +13,12 @@ ghost use Rattle.range_styles.specs.CanonicalPlans.{CanonicalCellPlan};
 ghost use Rattle.range_styles.specs.StyleRanges.{has_own_style};
 ghost use Rattle.range_styles.specs.StyleWalks.{reaches_all};
 ghost use Rattle.range_styles.specs.laws.StoredWalks.{columns_walked};
-ghost use Rattle.range_styles.specs.Styled.{content_of, place_styled, styled_cell};
+ghost use Rattle.range_styles.specs.Styled.{place_styled, styled_cell};
+ghost use Rattle.sheet_grid.specs.Sheet.{content_of};
 
 use crate::change::StyleChange;
 use crate::range::{StyleRange, is_small, reaches_all, reaches_columns, reaches_rows};
-use crate::shown::{has_own_style, shown_style, touches};
+use crate::shown::{has_own_style, touches};
 use crate::walk::{PlaceEdit, plan_places, put_entries, put_own_line};
 use base_axis::{Axis, AxisMap, MergedCell};
 use base_shared::Shared;
@@ -76,7 +77,7 @@ impl<'a, C: StyleChange> PlaceEdit<Option<Shared<Cell>>> for Styling<'a, C> {
         if !touches(self.range, self.sheet, self.plain, place) {
             return Ok(None);
         }
-        let style = shown_style(self.sheet, self.plain, place);
+        let style = self.sheet.shown_style_at(place, self.plain);
         let style = self.change.style_at(place, style)?;
         let entry = self.sheet.cell_map().get(place);
         Ok(Some(Some(styled_cell(self.alloc, entry, style)?)))

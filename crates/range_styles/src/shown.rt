@@ -1,9 +1,7 @@
-//! The styles that places and lines show, and the places that a range touches.
+//! The styles that lines show, and the places that a range touches.
 
 ghost use Rattle.std.specs.Prelude.{◌≡◌, IsTrue};
 ghost use Rattle.std.specs.Option.{option_copied};
-ghost use Rattle.sheet_grid.specs.Lines.{own_line_style};
-ghost use Rattle.sheet_grid.specs.Sheet.{line_style as line_style_at, own_style, shown_style};
 ghost use Rattle.sheet_grid.specs.DefaultParts.{is_default};
 ghost use Rattle.range_styles.specs.StyleRanges.{has_cell, has_own_style, has_style, is_cleared, is_set, touches};
 ghost use Rattle.range_styles.specs.Styled.{line_style};
@@ -12,17 +10,7 @@ use crate::range::{AreaKind, StyleRange};
 use base_shared::Shared;
 use base_styles::Style;
 use base_values::{Position, same};
-use sheet_grid::{DefaultStyle, LineAttr, Worksheet};
-
-/// The style that a line has of its own.
-pub(crate) fn own_style_of(own: Option<&LineAttr>) -> Option<&Shared<Style>>
-    ensures { option_copied result ≡ own_line_style (option_copied own.entry) }
-{
-    match own {
-        Some(attr) => attr.style.as_ref(),
-        None => None,
-    }
-}
+use sheet_grid::{DefaultStyle, LineAttr, Worksheet, own_line_style};
 
 /// Whether what a line has of its own has a style.
 pub(crate) fn has_own_style(attr: &LineAttr) -> bool
@@ -35,7 +23,7 @@ pub(crate) fn has_own_style(attr: &LineAttr) -> bool
 pub(crate) fn has_style(own: Option<&LineAttr>) -> bool
     ensures { result ≡ has_style (option_copied own.entry) }
 {
-    own_style_of(own).is_some()
+    own_line_style(own).is_some()
 }
 
 /// The style of a line, or the default one.
@@ -45,41 +33,7 @@ pub(crate) fn line_style<'a>(
 ) -> &'a Shared<Style>
     ensures { result.now ≡ line_style (option_copied own.entry) }
 {
-    match own_style_of(own) {
-        Some(style) => style,
-        None => plain.shared(),
-    }
-}
-
-/// The style of the row of a place, else of its column.
-fn style_of_lines(sheet: &Worksheet, place: Position) -> Option<&Shared<Style>>
-    ensures { option_copied result ≡ line_style_at sheet.now place }
-{
-    match own_style_of(sheet.row_map().get(place.row)) {
-        Some(style) => Some(style),
-        None => own_style_of(sheet.column_map().get(place.column)),
-    }
-}
-
-/// The style of the cell of a place, else of its row, else of its column.
-fn own_style(sheet: &Worksheet, place: Position) -> Option<&Shared<Style>>
-    ensures { option_copied result ≡ own_style sheet.now place }
-{
-    match sheet.cell_map().get(place) {
-        Some(cell) => Some(&cell.get().style),
-        None => style_of_lines(sheet, place),
-    }
-}
-
-/// The style that a place shows.
-pub(crate) fn shown_style<'a>(
-    sheet: &'a Worksheet,
-    plain: &'a DefaultStyle,
-    place: Position,
-) -> &'a Shared<Style>
-    ensures { result.now ≡ shown_style sheet.now place }
-{
-    match own_style(sheet, place) {
+    match own_line_style(own) {
         Some(style) => style,
         None => plain.shared(),
     }
@@ -121,7 +75,7 @@ fn is_cleared(kind: AreaKind, sheet: &Worksheet, plain: &DefaultStyle, place: Po
         }
         AreaKind::FullRows => has_cell(sheet, place),
         AreaKind::OtherPlaces => {
-            has_cell(sheet, place) || !is_default(plain, shown_style(sheet, plain, place))
+            has_cell(sheet, place) || !is_default(plain, sheet.shown_style_at(place, plain))
         }
     }
 }

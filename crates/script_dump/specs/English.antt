@@ -1,19 +1,14 @@
 -- What English texts in the cell at a place are read and printed with.
-use Rattle.std.specs.Prelude.{ℕ, ◌==◌, List, [], ◌∷◌, if◌then◌else◌}
+use Rattle.std.specs.Prelude.{ℕ, List}
 use Rattle.base_values.specs.declared.Position.{Position}
 use Rattle.base_tables.specs.declared.Language.TheVariants as language
 use Rattle.base_tables.specs.declared.Locale.TheVariants as locale
 use Rattle.formula_grammar.specs.declared.Profile.{Profile}
-use Rattle.formula_read.specs.Formula.{formula_of}
+use Rattle.formula_read.specs.Formula.{formula_of, without_equals}
 use Rattle.formula_tree.specs.declared.Node.{Node}
 
 abbrev pub english : Position → Profile
 english place = record { place = place; locale = locale.En; language = language.En }
-
--- a text without an equals sign that leads it
-abbrev pub without_equals : List ℕ → List ℕ
-without_equals [] = []
-without_equals (c ∷ rest) = if c == 61 then rest else c ∷ rest
 
 -- the tree of a formula's text, which may be led by an equals sign
 abbrev pub english_tree : Position → List ℕ → Node

@@ -9,12 +9,12 @@ ghost use Rattle.cell_content.specs.Fitting.{fits_at, tree_fits_at};
 ghost use Rattle.cell_content.specs.CanonicalContent.{IsCanonicalContent};
 ghost use Rattle.cell_input.specs.Inputs.{input_of, input_text};
 ghost use Rattle.script_lines.specs.Escapes.{escaped};
-ghost use Rattle.script_dump.specs.English.{english, english_tree, without_equals};
+ghost use Rattle.script_dump.specs.English.{english, english_tree};
 
 use base_tables::{Language, Locale};
 use base_values::{EditError, Position, Text};
 use cell_input::{push_content, read_input};
-use formula_read::read_formula;
+use formula_read::{read_formula, without_equals};
 use formula_tree::{CellReferenceRC, Node};
 use script_lines::push_escaped;
 use sheet_grid::Content;
@@ -68,16 +68,6 @@ pub fn english_input(alloc: Global, place: Position, text: &str) -> Result<Conte
         Locale::En,
         Language::En,
     )
-}
-
-/// A text without an equals sign that leads it.
-fn without_equals(text: &str) -> &str
-    ensures { result.now ≡ without_equals text.now }
-{
-    match text.strip_prefix("=") {
-        Some(rest) => rest,
-        None => text,
-    }
 }
 
 /// The tree of an English formula's text in the cell at a place inside the sheet. An equals sign may

@@ -37,4 +37,4 @@ pub use row_attr::RowAttr;
 pub use sheet_entries::SheetEntries;
 pub use state::SheetState;
 pub use workbook::Workbook;
-pub use worksheet::Worksheet;
+pub use worksheet::{Worksheet, own_line_style};

@@ -32,6 +32,7 @@ use format_rules::RuleList;
 use std::alloc::{AllocError, Global};
 use std::collections::btree_map::Iter;
 use std::marker::Model;
+pub use styles::own_line_style;
 
 /// One sheet of a workbook. Its numbers, those of its formulas and its conditional rules too, have at
 /// most 15 digits on each side of the point, and no zero digit at the end of their places.

@@ -1,6 +1,5 @@
 -- Texts that are read as contents of cells, and that contents are shown as.
 use Rattle.std.proofs.Common.{ℕ, ℤ, List, [], ◌∷◌, Option, Some, None, Result}
-use Rattle.std.specs.Prelude.{◌==◌, if◌then◌else◌}
 use Rattle.base_values.specs.declared.EditError.{EditError}
 use Rattle.base_values.specs.declared.Position.{Position}
 use Rattle.base_values.specs.Answers.{and_then, map_ok}
@@ -10,7 +9,7 @@ use Rattle.base_tables.specs.declared.Language.{Language}
 use Rattle.base_tables.specs.declared.Locale.{Locale}
 use Rattle.formula_tree.specs.declared.Node.{Node}
 use Rattle.formula_grammar.specs.declared.Profile.{Profile}
-use Rattle.formula_read.specs.Formula.{formula_of}
+use Rattle.formula_read.specs.Formula.{formula_of, without_equals}
 use Rattle.cell_content.specs.declared.Content.{Content}
 use Rattle.cell_content.specs.declared.Content.TheVariants.{Empty}
 use Rattle.cell_input.specs.Inputs.{input_of, input_text}
@@ -27,18 +26,13 @@ profile_at place locale language = record { place = place; locale = locale; lang
 abbrev pub typed : Book → Language → ℤ → ℤ → List ℕ → Content
 typed book language row column text = input_of (profile_at (record { row = row; column = column }) book.locale language) text
 
--- a formula's text without a leading equals sign
-abbrev pub without_sign : List ℕ → List ℕ
-without_sign [] = []
-without_sign (c ∷ rest) = if c == 61 then rest else c ∷ rest
-
 -- the formula that a text is read as at a row and a column
 abbrev pub formula_typed : Book → Language → ℤ → ℤ → List ℕ → Node
-formula_typed book language row column text = formula_of (profile_at (record { row = row; column = column }) book.locale language) (without_sign text)
+formula_typed book language row column text = formula_of (profile_at (record { row = row; column = column }) book.locale language) (without_equals text)
 
 -- the formula that a text is read as at a place
 abbrev pub formula_at : Position → List ℕ → Book → Language → Node
-formula_at place text book language = formula_of (profile_at place book.locale language) (without_sign text)
+formula_at place text book language = formula_of (profile_at place book.locale language) (without_equals text)
 
 -- a link to a target
 abbrev pub link_to : List ℕ → Link

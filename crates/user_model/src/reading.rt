@@ -3,14 +3,14 @@ ghost use Rattle.base_values.specs.Answers.{Returns, map_ok};
 ghost use Rattle.base_values.specs.Places.{IsPlace};
 ghost use Rattle.base_values.specs.declared.EditError.TheVariants.{NoMemory};
 ghost use Rattle.base_axis.specs.Rectangles.{anchor_place};
-ghost use Rattle.formula_read.specs.Formula.{formula_of};
+ghost use Rattle.formula_read.specs.Formula.{formula_of, without_equals};
 ghost use Rattle.formula_tree.specs.Context.{context_place};
 ghost use Rattle.formula_tree.specs.Numbers.{has_canonical_numbers};
 ghost use Rattle.cell_content.specs.Fitting.{fits_at, tree_fits_at};
 ghost use Rattle.cell_content.specs.CanonicalContent.{IsCanonicalContent};
 ghost use Rattle.cell_input.specs.Inputs.{input_of};
 ghost use Rattle.user_model.specs.Places.{array_goes, input_goes, link_goes, rule_goes};
-ghost use Rattle.user_model.specs.Reading.{content_text, link_to, profile_at, rectangle, rectangle_of, without_sign};
+ghost use Rattle.user_model.specs.Reading.{content_text, link_to, profile_at, rectangle, rectangle_of};
 
 use base_axis::{Area, MergedCell};
 use base_shared::Shared;
@@ -18,7 +18,7 @@ use base_tables::{Language, Locale};
 use base_values::{EditError, Position, Text, place_of};
 use cell_input::{print_content, read_input};
 use edit_plans::{free_area, free_place};
-use formula_read::read_formula;
+use formula_read::{read_formula, without_equals};
 use formula_tree::{CellReferenceRC, Node};
 use sheet_grid::{Content, Link, Workbook};
 use std::alloc::Global;
@@ -180,16 +180,6 @@ pub(crate) fn find_rule_place(
     }
 }
 
-/// A formula's text without a leading equals sign.
-fn without_sign(text: &str) -> &str
-    ensures { result.now ≡ without_sign text.now }
-{
-    match text.strip_prefix("=") {
-        Some(rest) => rest,
-        None => text,
-    }
-}
-
 /// The formula that a text is read as in the cell at a place inside the sheet. `NoMemory` alone is an
 /// error.
 #[tactic(auto, unfolding(cell_content::specs::Fitting::tree_fits_at, formula_tree::specs::Depth::is_within))]
@@ -201,12 +191,12 @@ pub(crate) fn read_tree_at(
     language: Language,
 ) -> Result<Shared<Node>, EditError>
     requires place { IsPlace place }
-    ensures value { IfOk result (λ tree. tree ≡ formula_of (profile_at place locale language) (without_sign text.now)) }
+    ensures value { IfOk result (λ tree. tree ≡ formula_of (profile_at place locale language) (without_equals text.now)) }
     ensures canonical { IfOk result (λ tree. has_canonical_numbers tree ≡ true) }
     ensures fits { IfOk result (λ tree. tree_fits_at place tree ≡ true) }
     ensures memory { IsOkUnless result NoMemory }
 {
     let context = context_at(alloc, place);
-    let tree = read_formula(alloc, without_sign(text), &context, locale, language)?;
+    let tree = read_formula(alloc, without_equals(text), &context, locale, language)?;
     Ok(Shared::new(alloc, tree)?)
 }

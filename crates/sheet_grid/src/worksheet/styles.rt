@@ -14,7 +14,8 @@ use base_shared::Shared;
 use base_styles::Style;
 use base_values::{EditError, Position, copy_of, place_of};
 
-pub(super) fn own_line_style(own: Option<&LineAttr>) -> Option<&Shared<Style>>
+/// The style that a line has of its own.
+pub fn own_line_style(own: Option<&LineAttr>) -> Option<&Shared<Style>>
     ensures { option_copied result ≡ own_line_style (option_copied own.entry) }
 {
     match own {
@@ -54,6 +55,21 @@ impl Worksheet {
         }
     }
 
+    /// Lends the style that a place shows: its cell's, else its row's where that has one, else its
+    /// column's, else the default, which is given. It takes no memory.
+    pub fn shown_style_at<'a>(
+        &'a self,
+        place: Position,
+        default: &'a DefaultStyle,
+    ) -> &'a Shared<Style>
+        ensures { result.now ≡ shown_style self.now place }
+    {
+        match self.own_style(place) {
+            Some(style) => style,
+            None => default.shared(),
+        }
+    }
+
     /// Lends the style that the place at a row and a column shows: its cell's, else its row's
     /// where that has one, else its column's, else the default, which is given. It takes no memory.
     ///
@@ -67,10 +83,7 @@ impl Worksheet {
         ensures { map_ok (λ lent. lent.now) result ≡ style_at self.now row column }
     {
         let place = place_of(row, column)?;
-        match self.own_style(place) {
-            Some(style) => Ok(style),
-            None => Ok(default.shared()),
-        }
+        Ok(self.shown_style_at(place, default))
     }
 
     /// A copy of the style that the place at a row and a column shows: its cell's, else its row's

@@ -7,13 +7,13 @@ use Rattle.base_values.specs.declared.EditError.TheVariants.{NoMemory}
 use Rattle.base_values.specs.declared.Position.{Position}
 use Rattle.base_axis.specs.declared.MergedCell.{MergedCell}
 use Rattle.base_axis.specs.Rectangles.{anchor_place}
-use Rattle.formula_read.specs.Formula.{formula_of}
+use Rattle.formula_read.specs.Formula.{formula_of, without_equals}
 use Rattle.cell_content.specs.Fitting.{tree_fits_at}
 use Rattle.edit_plans.specs.Edits.{Edit}
 use Rattle.edit_plans.specs.Edits.Edit.{ArrayInput}
 use Rattle.open_book.specs.Machine.{edit_of}
 use Rattle.user_model.specs.Places.{array_goes}
-use Rattle.user_model.specs.Reading.{formula_typed, profile_at, rectangle, without_sign}
+use Rattle.user_model.specs.Reading.{formula_typed, profile_at, rectangle}
 use Rattle.open_book.specs.Stands.{Moves}
 use Rattle.open_book.specs.Values.{Session}
 use Rattle.user_model.proofs.Inputs.{array_refused, array_accepted, refused_moves, short_moves}
@@ -70,8 +70,8 @@ returns-clause-next g c = λ state stands.
     let doc = ap (λ (seen : Session). seen.document) c.self.view_is ∙ stands.document in
     let same =
     (c.in_ok-tree.ensures {u = _}).value
-    ∙ (λ i. formula_of (profile_at c.in_ok-place.place (c.locale.ensures i) c.self.inside.book.language) (without_sign c.args.formula.now))
-    ∙ (λ i. formula_of (profile_at (here i) (doc i).book.locale (doc i).language) (without_sign c.args.formula.now)) in
+    ∙ (λ i. formula_of (profile_at c.in_ok-place.place (c.locale.ensures i) c.self.inside.book.language) (without_equals c.args.formula.now))
+    ∙ (λ i. formula_of (profile_at (here i) (doc i).book.locale (doc i).language) (without_equals c.args.formula.now)) in
     subst
     (λ (a : MergedCell). Moves c.set_array.result c.set_array.new.self.document (edit_of (ArrayInput c.args.sheet a (formula_typed state.present state.language c.args.row c.args.column c.args.formula.now)) state))
     area_is

@@ -456,7 +456,7 @@ impl OpenBook {
 
     /// Takes the newest list of the undo stack back in the workbook, and sends it. A stale list may be
     /// refused.
-    pub fn take_back<R: Recalc>(
+    pub fn undo<R: Recalc>(
         &mut self,
         results: &mut Results,
         recalc: &mut R,
@@ -500,7 +500,7 @@ impl OpenBook {
 
     /// Makes the changes of the newest list of the redo stack again, and sends it. A stale list may
     /// be refused.
-    pub fn make_again<R: Recalc>(
+    pub fn redo<R: Recalc>(
         &mut self,
         results: &mut Results,
         recalc: &mut R,

@@ -18,7 +18,7 @@ use sheet_grid::{Cell, DefaultStyle, Link, Workbook};
 use std::alloc::Global;
 
 /// What a fill makes of a sheet. As in every plan, a place of which nothing is said keeps what it has.
-#[derive(Drop)]
+#[derive(Clone, PartialEq, Eq, Drop)]
 pub struct FillPlan {
     /// The cell of each place of the target.
     pub cells: PlaceMap<Option<Shared<Cell>>>,

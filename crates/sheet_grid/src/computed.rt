@@ -32,7 +32,7 @@ impl Exact for ComputedValue {
 
 /// The values that a recalculation gives the cells of a workbook, by the ids of their sheets and
 /// their positions. They are no part of the workbook.
-#[derive(Drop)]
+#[derive(Clone, PartialEq, Eq, Drop)]
 pub struct Computed {
     values: SheetPlaceMap<ComputedValue>,
 }

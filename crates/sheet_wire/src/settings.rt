@@ -4,7 +4,7 @@ ghost use Rattle.std.specs.Prelude.{◌≡◌, ◌++◌, OnOk};
 ghost use Rattle.base_values.specs.Answers.{Answers, map_ok};
 ghost use Rattle.sheet_history.specs.declared.Diff.TheVariants.{Setting as SettingDiff};
 ghost use Rattle.sheet_wire.specs.QueueBytes.{spell_diff};
-ghost use Rattle.sheet_wire.specs.laws.Reading.{locale_diff_at, theme_diff_at, title_diff_at, zone_diff_at, twice_at};
+ghost use Rattle.sheet_wire.specs.laws.Reading.{locale_diff_at, theme_diff_at, title_diff_at, zone_diff_at, pair_at};
 ghost use Rattle.sheet_wire.specs.SettingBytes.{spell_twice, FitsSetting};
 
 use crate::steps::read;
@@ -49,12 +49,12 @@ pub(crate) fn put_setting(out: &mut Vec<u8>, change: &SettingChange) -> Result<(
 }
 
 /// What a setting was and what it is.
-fn twice_at<'a, P: Part>(
+fn pair_at<'a, P: Part>(
     alloc: Global,
     context: &P::Context,
     bytes: &'a [u8],
 ) -> Result<((P::Value, P::Value), &'a [u8]), EditError>
-    ensures { Answers (map_ok (λ x. ((x.0.0, x.0.1), x.1.now)) result) (twice_at P.reading bytes.now) }
+    ensures { Answers (map_ok (λ x. ((x.0.0, x.0.1), x.1.now)) result) (pair_at P.reading bytes.now) }
 {
     let (old, rest) = read::<P>(alloc, context, bytes)?;
     let (new, rest) = read::<P>(alloc, context, rest)?;
@@ -65,7 +65,7 @@ fn twice_at<'a, P: Part>(
 pub(crate) fn theme_diff_at(alloc: Global, bytes: &[u8]) -> Result<(Diff, &[u8]), EditError>
     ensures { Answers (map_ok (λ x. (x.0, x.1.now)) result) (theme_diff_at bytes.now) }
 {
-    let ((old, new), rest) = twice_at::<ThemePart>(alloc, &(), bytes)?;
+    let ((old, new), rest) = pair_at::<ThemePart>(alloc, &(), bytes)?;
     let change = SettingChange::Theme { old, new };
     Ok((Diff::Setting { change }, rest))
 }
@@ -74,7 +74,7 @@ pub(crate) fn theme_diff_at(alloc: Global, bytes: &[u8]) -> Result<(Diff, &[u8])
 pub(crate) fn title_diff_at(alloc: Global, bytes: &[u8]) -> Result<(Diff, &[u8]), EditError>
     ensures { Answers (map_ok (λ x. (x.0, x.1.now)) result) (title_diff_at bytes.now) }
 {
-    let ((old, new), rest) = twice_at::<Text>(alloc, &(), bytes)?;
+    let ((old, new), rest) = pair_at::<Text>(alloc, &(), bytes)?;
     let change = SettingChange::Name { old, new };
     Ok((Diff::Setting { change }, rest))
 }
@@ -83,7 +83,7 @@ pub(crate) fn title_diff_at(alloc: Global, bytes: &[u8]) -> Result<(Diff, &[u8])
 pub(crate) fn locale_diff_at(alloc: Global, bytes: &[u8]) -> Result<(Diff, &[u8]), EditError>
     ensures { Answers (map_ok (λ x. (x.0, x.1.now)) result) (locale_diff_at bytes.now) }
 {
-    let ((old, new), rest) = twice_at::<LocalePart>(alloc, &(), bytes)?;
+    let ((old, new), rest) = pair_at::<LocalePart>(alloc, &(), bytes)?;
     let change = SettingChange::Locale { old, new };
     Ok((Diff::Setting { change }, rest))
 }
@@ -92,7 +92,7 @@ pub(crate) fn locale_diff_at(alloc: Global, bytes: &[u8]) -> Result<(Diff, &[u8]
 pub(crate) fn zone_diff_at(alloc: Global, bytes: &[u8]) -> Result<(Diff, &[u8]), EditError>
     ensures { Answers (map_ok (λ x. (x.0, x.1.now)) result) (zone_diff_at bytes.now) }
 {
-    let ((old, new), rest) = twice_at::<ZonePart>(alloc, &(), bytes)?;
+    let ((old, new), rest) = pair_at::<ZonePart>(alloc, &(), bytes)?;
     let change = SettingChange::Zone { old, new };
     Ok((Diff::Setting { change }, rest))
 }

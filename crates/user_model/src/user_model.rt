@@ -619,7 +619,7 @@ impl<R: Recalc + Drop> UserModel<R> {
         ensures err { OnErr result (self.new ≡ self.old) }
         ensures paused { self.new.paused ≡ self.old.paused }
     {
-        self.book.take_back(&mut self.results, &mut self.recalc)
+        self.book.undo(&mut self.results, &mut self.recalc)
     }
 
     /// Makes the newest undone step again. Without one nothing is done. The errors are those of
@@ -635,7 +635,7 @@ impl<R: Recalc + Drop> UserModel<R> {
         ensures err { OnErr result (self.new ≡ self.old) }
         ensures paused { self.new.paused ≡ self.old.paused }
     {
-        self.book.make_again(&mut self.results, &mut self.recalc)
+        self.book.redo(&mut self.results, &mut self.recalc)
     }
 
     /// The bytes of all records since the last flush. The queue is empty then. The only error is

@@ -30,7 +30,7 @@ use Rattle.lines_wire.specs.KeptBytes.{spell_kept, FitsKept}
 use Rattle.lines_wire.specs.laws.EditLaws.{edit_format}
 use Rattle.lines_wire.specs.laws.KeptLaws.{kept_format}
 use Rattle.sheet_wire.specs.ChangeBytes.{spell_change, spell_sheet_change}
-use Rattle.sheet_wire.specs.laws.Reading.{standing_at, change_at, sheet_change_at, axes, lines_parts_at, state_at, new_parts_at, copy_parts_at, deletion_parts_at, move_parts_at, rule_parts_at, rename_parts_at, name_parts_at, attr_parts_at, rename_diff_made, rename_diff_at, name_diff_made, name_diff_at, move_diff_made, move_diff_at, color_diff_made, color_diff_at, state_diff_made, state_diff_at, grid_diff_made, grid_diff_at, attr_diff_made, attr_diff_at, frozen_rows_diff_made, frozen_rows_diff_at, frozen_columns_diff_made, frozen_columns_diff_at, twice_at, theme_diff_made, theme_diff_at, title_diff_made, title_diff_at, locale_diff_made, locale_diff_at, zone_diff_made, zone_diff_at, cell_diff_made, cell_diff_at, link_diff_made, link_diff_at, merges_diff_made, merges_diff_at, rule_diff_made, rule_diff_at, lines_diff_made, lines_diff_at, new_diff_made, new_diff_at, copy_diff_made, copy_diff_at, deletion_diff_made, deletion_diff_at, diff_of, diff_at, directions, entry_made, list_of_diffs_at, entry_at}
+use Rattle.sheet_wire.specs.laws.Reading.{standing_at, change_at, sheet_change_at, axes, lines_parts_at, state_at, new_parts_at, copy_parts_at, deletion_parts_at, move_parts_at, rule_parts_at, rename_parts_at, name_parts_at, attr_parts_at, rename_diff_made, rename_diff_at, name_diff_made, name_diff_at, move_diff_made, move_diff_at, color_diff_made, color_diff_at, state_diff_made, state_diff_at, grid_diff_made, grid_diff_at, attr_diff_made, attr_diff_at, frozen_rows_diff_made, frozen_rows_diff_at, frozen_columns_diff_made, frozen_columns_diff_at, pair_at, theme_diff_made, theme_diff_at, title_diff_made, title_diff_at, locale_diff_made, locale_diff_at, zone_diff_made, zone_diff_at, cell_diff_made, cell_diff_at, link_diff_made, link_diff_at, merges_diff_made, merges_diff_at, rule_diff_made, rule_diff_at, lines_diff_made, lines_diff_at, new_diff_made, new_diff_at, copy_diff_made, copy_diff_at, deletion_diff_made, deletion_diff_at, diff_of, diff_at, directions, entry_made, list_of_diffs_at, entry_at}
 use Rattle.sheet_wire.specs.LinesBytes.{axis_code, spell_lines}
 use Rattle.sheet_wire.specs.SheetsBytes.{spell_color_change, spell_state_change, spell_grid_change, spell_new, spell_copy, spell_deletion, spell_move, spell_count_change}
 use Rattle.sheet_wire.specs.RulesBytes.{spell_rule}
@@ -128,16 +128,16 @@ diff_again = record { again = one }
         map_reads frozen_columns_diff_made (sheet_change_at (signed_at w32)) (spell_count_change sheet old new ++ rest) (sheet, (old, new)) rest
         ((sheet_change_format signed_format).again.again (sheet, (old, new)) rest (fits.sheet, (fits.old, fits.new)))
     one (SettingDiff (setting.Theme old new)) rest fits =
-        map_reads theme_diff_made (twice_at theme_at) (spell_twice spell_theme old new ++ rest) (old, new) rest
+        map_reads theme_diff_made (pair_at theme_at) (spell_twice spell_theme old new ++ rest) (old, new) rest
         ((twice_format theme_format).again.again (old, new) rest (fits.0, fits.1))
     one (SettingDiff (setting.Name old new)) rest fits =
-        map_reads title_diff_made (twice_at text_at) (spell_twice spell_text old new ++ rest) (old, new) rest
+        map_reads title_diff_made (pair_at text_at) (spell_twice spell_text old new ++ rest) (old, new) rest
         ((twice_format text_format).again.again (old, new) rest (fits.0, fits.1))
     one (SettingDiff (setting.Locale old new)) rest fits =
-        map_reads locale_diff_made (twice_at locale_at) (spell_twice spell_locale old new ++ rest) (old, new) rest
+        map_reads locale_diff_made (pair_at locale_at) (spell_twice spell_locale old new ++ rest) (old, new) rest
         ((twice_format locale_format).again.again (old, new) rest (tt, tt))
     one (SettingDiff (setting.Zone old new)) rest fits =
-        map_reads zone_diff_made (twice_at zone_at) (spell_twice spell_zone old new ++ rest) (old, new) rest
+        map_reads zone_diff_made (pair_at zone_at) (spell_twice spell_zone old new ++ rest) (old, new) rest
         ((twice_format zone_format).again.again (old, new) rest (tt, tt))
     one (AttrDiff sheet Columns line old new) rest fits =
         map_reads (attr_diff_made Columns) attr_parts_at (spell_attr_change sheet line old new ++ rest) (sheet, (line, (old, new))) rest

@@ -79,8 +79,8 @@ lines_parts_at = number_at w32 ⊗ code_at axis_code axes ⊗ edit_at ⊗ kept_a
 
 -- ---- changes of settings
 
-abbrev pub twice_at : {A : Type 0} → Reader A → Reader (A × A)
-twice_at read = read ⊗ read
+abbrev pub pair_at : {A : Type 0} → Reader A → Reader (A × A)
+pair_at read = read ⊗ read
 
 -- ---- changes of conditional rules
 
@@ -265,25 +265,25 @@ abbrev pub theme_diff_made : Theme × Theme → Diff
 theme_diff_made x = SettingDiff (setting.Theme x.0 x.1)
 
 unfoldable pub theme_diff_at : Reader Diff
-theme_diff_at = map_at theme_diff_made (twice_at theme_at)
+theme_diff_at = map_at theme_diff_made (pair_at theme_at)
 
 abbrev pub title_diff_made : List ℕ × List ℕ → Diff
 title_diff_made x = SettingDiff (setting.Name x.0 x.1)
 
 unfoldable pub title_diff_at : Reader Diff
-title_diff_at = map_at title_diff_made (twice_at text_at)
+title_diff_at = map_at title_diff_made (pair_at text_at)
 
 abbrev pub locale_diff_made : Locale × Locale → Diff
 locale_diff_made x = SettingDiff (setting.Locale x.0 x.1)
 
 unfoldable pub locale_diff_at : Reader Diff
-locale_diff_at = map_at locale_diff_made (twice_at locale_at)
+locale_diff_at = map_at locale_diff_made (pair_at locale_at)
 
 abbrev pub zone_diff_made : Zone × Zone → Diff
 zone_diff_made x = SettingDiff (setting.Zone x.0 x.1)
 
 unfoldable pub zone_diff_at : Reader Diff
-zone_diff_at = map_at zone_diff_made (twice_at zone_at)
+zone_diff_at = map_at zone_diff_made (pair_at zone_at)
 
 -- what follows each tag
 abbrev pub diff_of : ℕ → Reader Diff

@@ -4,7 +4,7 @@ use Rattle.base_wire.specs.laws.Reading.{Reader}
 use Rattle.base_wire.specs.Spelling.{Both, spell_both}
 use Rattle.base_wire.specs.laws.Format.{Format}
 use Rattle.base_wire.specs.laws.Formats.{both_format}
-use Rattle.sheet_wire.specs.laws.Reading.{twice_at}
+use Rattle.sheet_wire.specs.laws.Reading.{pair_at}
 
-pub twice_format : {A : Type 0} {F : A → Type 0} {s : A → List ℕ} {r : Reader A} → Format F s r → Format (Both F F) (spell_both s s) (twice_at r)
+pub twice_format : {A : Type 0} {F : A → Type 0} {s : A → List ℕ} {r : Reader A} → Format F s r → Format (Both F F) (spell_both s s) (pair_at r)
 twice_format law = both_format law law

@@ -4,7 +4,7 @@ use Rattle.open_book.specs.Document.{redone}
 use Rattle.open_book.specs.Opened.{document_in}
 use Rattle.open_book.proofs.Moving.{reached_rules}
 use Rattle.open_book.proofs.Recording.{forth_refused, made_again, redo_works, refused_with, sent_back}
-use Rattle.open_book.proofs.open_book.OpenBook.make_again.Goals as goal
+use Rattle.open_book.proofs.open_book.OpenBook.redo.Goals as goal
 
 pub install_viewed-requires-clause-rules : goal.install_viewed-requires-clause-rules
 install_viewed-requires-clause-rules g c = reached_rules (document_in c.args.self.now) c.requires

@@ -1,4 +1,4 @@
-ghost use Rattle.std.specs.Prelude.{◌≡◌, ◌≢◌, Err, IfOk, IsTrue};
+ghost use Rattle.std.specs.Prelude.{◌≡◌, ◌≢◌, Err, IfOk, IfSome, IsTrue};
 ghost use Rattle.base_values.specs.declared.error.EditError.TheVariants.{NoMemory};
 ghost use Rattle.base_values.specs.Places.{IsLine, IsPlace, as_line, is_line, is_place, line_of, place_of};
 

@@ -7,7 +7,7 @@ ghost use Rattle.base_decimal.specs.laws.Reading.{exponent_after, exponent_at, f
 ghost use Rattle.base_decimal.specs.Seen.{seen};
 ghost use Rattle.base_decimal.specs.Value.{fifteen_places};
 
-use crate::digits::{are_zero, capped_number, digit_value, digits, raised};
+use crate::digits::{digit_value, digits};
 
 /// What stands before the digits of an exponent.
 #[derive(Clone, Copy)]

@@ -39,7 +39,7 @@ fn starts_positive(digits: &[u8]) -> bool
 }
 
 /// Whether the text is a number from 1 to `last` without a leading zero.
-#[tactic(auto, unfolding(crate::specs::Word::is_count))]
+#[tactic(auto, unfolding(crate::specs::Word::is_count, crate::specs::Word::digits_number))]
 fn is_count(text: &[u8], last: u32) -> bool
     requires { last < 2 ^ 31 }
     ensures { result ≡ is_count last text.now }

@@ -65,6 +65,7 @@ impl Found {
         ensures { Makes node result }
     {
         if depth > MAX_DEPTH {
+            drop(node);
             return Err(Fault::Outside);
         }
         Ok(Found { node, depth })
@@ -76,9 +77,16 @@ impl Found {
         ensures { Makes (table.infix_node operator left right) result }
     {
         let depth = left.depth.max(right.depth) + 1;
-        let left = Shared::new(alloc, left.into_node())?;
-        let right = Shared::new(alloc, right.into_node())?;
-        Found::above(operator.node(left, right), depth)
+        match Shared::new(alloc, left.into_node()) {
+            Ok(left) => {
+                let right = Shared::new(alloc, right.into_node())?;
+                Found::above(operator.node(left, right), depth)
+            }
+            Err(error) => {
+                drop(right);
+                Err(error.into())
+            }
+        }
     }
 
     /// What a postfix operator makes of a tree.

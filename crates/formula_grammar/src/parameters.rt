@@ -45,7 +45,7 @@ fn parameter(tokens: &mut Cursor<'_>, locale: Locale) -> Result<Option<Parameter
 }
 
 /// The parameters of a lambda, each with the separator after it.
-#[tactic(auto, using(crate::proofs::Loops::turns), unfolding(crate::specs::laws::Reading::parameters))]
+#[tactic(auto, unfolding(crate::specs::laws::Reading::parameters))]
 pub fn parameters(
     alloc: Global,
     tokens: &mut Cursor<'_>,

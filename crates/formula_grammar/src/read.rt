@@ -40,6 +40,7 @@ fn tree_of(alloc: Global, profile: Profile, tokens: &[Token]) -> Result<Option<N
             if cursor.rest.is_empty() {
                 Ok(Some(found.into_node()))
             } else {
+                drop(found);
                 Ok(None)
             }
         }

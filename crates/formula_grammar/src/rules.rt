@@ -60,6 +60,7 @@ impl<F: Fn(Global, Profile, &mut Cursor<'_>, u64, u64) -> Result<Found, Fault>> 
             };
             left = self.turn(tokens, under, operator, left)?;
         }
+        drop(left);
         Err(Fault::Outside)
     }
 
@@ -77,10 +78,13 @@ impl<F: Fn(Global, Profile, &mut Cursor<'_>, u64, u64) -> Result<Found, Fault>> 
             Reads (spec.turn operand operator left tokens.old.rest.now) result tokens.new.rest.now }
     {
         match operator {
-            Operator::Infix(operator) => {
-                let right = self.expression(tokens, under)?;
-                Found::joined(self.alloc, operator, left, right)
-            }
+            Operator::Infix(operator) => match self.expression(tokens, under) {
+                Ok(right) => Found::joined(self.alloc, operator, left, right),
+                Err(fault) => {
+                    drop(left);
+                    Err(fault)
+                }
+            },
             Operator::Postfix(operator) => Found::followed(self.alloc, operator, left),
         }
     }
@@ -163,6 +167,7 @@ impl<F: Fn(Global, Profile, &mut Cursor<'_>, u64, u64) -> Result<Found, Fault>> 
         }
         let tree = self.inner(tokens, self.room - 1)?;
         if !tokens.closing() {
+            drop(tree);
             return Err(Fault::Outside);
         }
         Ok(tree)
@@ -206,10 +211,24 @@ impl<F: Fn(Global, Profile, &mut Cursor<'_>, u64, u64) -> Result<Found, Fault>> 
             if !tokens.opening() {
                 return Ok(tree);
             }
-            let arguments = self.arguments(tokens)?;
-            tree = Found::lambda_call(self.alloc, tree, arguments)?;
+            tree = self.applied(tokens, tree)?;
         }
+        drop(tree);
         Err(Fault::Outside)
+    }
+
+    /// A call of the tree before, after the opening parenthesis.
+    fn applied(&self, tokens: &mut Cursor<'_>, callee: Found) -> Result<Found, Fault>
+        requires { Nests self.now.profile self.now.nesting (F.pre self.now.whole) (F.post self.now.whole) }
+        ensures { Reads (spec.lambda_turn self.now.profile (spec.whole self.now.profile self.now.nesting) self.now.room tt callee tokens.old.rest.now) result tokens.new.rest.now }
+    {
+        match self.arguments(tokens) {
+            Ok(arguments) => Found::lambda_call(self.alloc, callee, arguments),
+            Err(fault) => {
+                drop(callee);
+                Err(fault)
+            }
+        }
     }
 
     /// Parameters and body of a lambda, up to the closing parenthesis.
@@ -221,12 +240,13 @@ impl<F: Fn(Global, Profile, &mut Cursor<'_>, u64, u64) -> Result<Found, Fault>> 
         let parameters = parameters(self.alloc, tokens, self.profile.locale)?;
         let body = self.inner(tokens, self.room)?;
         if !tokens.closing() {
+            drop(body);
             return Err(Fault::Outside);
         }
         Found::lambda(self.alloc, parameters, body)
     }
 
-    #[tactic(auto, using(crate::proofs::Depths::depths), unfolding(crate::specs::laws::Reading::argument))]
+    #[tactic(auto, unfolding(crate::specs::laws::Reading::argument))]
     fn argument(&self, tokens: &mut Cursor<'_>) -> Result<Found, Fault>
         requires { Nests self.now.profile self.now.nesting (F.pre self.now.whole) (F.post self.now.whole) }
         ensures { Reads (spec.argument self.now.profile (spec.whole self.now.profile self.now.nesting) self.now.room tokens.old.rest.now) result tokens.new.rest.now }
@@ -238,7 +258,7 @@ impl<F: Fn(Global, Profile, &mut Cursor<'_>, u64, u64) -> Result<Found, Fault>> 
     }
 
     /// The arguments of a call, up to the closing parenthesis.
-    #[tactic(auto, using(crate::proofs::Loops::turns), unfolding(crate::specs::laws::Reading::arguments))]
+    #[tactic(auto, unfolding(crate::specs::laws::Reading::arguments))]
     fn arguments(&self, tokens: &mut Cursor<'_>) -> Result<FoundAll, Fault>
         requires { Nests self.now.profile self.now.nesting (F.pre self.now.whole) (F.post self.now.whole) }
         ensures { Reads (spec.arguments self.now.profile (spec.whole self.now.profile self.now.nesting) self.now.room tokens.old.rest.now) result tokens.new.rest.now }

@@ -1,6 +1,6 @@
 -- Pasted styles: rows that are tested one by one, the lines of the rectangle that gets them, and the refusals of plans.
-use Rattle.std.proofs.Common.{◌≡◌, ◌≢◌, ℕ, ℤ, pos, ◌+ℤ◌, ◌-ℤ◌, ◌<◌, ◌≤◌, ◌<ℤ◌, ◌≤ℤ◌, Bool, true, false, cond, ◌&&◌, List, [], ◌∷◌, length, get_or, map, take, Result, Ok, Err, w32, w64, FitsSigned, to_z, of_z, refl, ap, sym, subst, ◌∙◌, arith}
-use Rattle.std.specs.Prelude.{◌||◌, not, if◌then◌else◌, is_ok}
+use Rattle.std.proofs.Common.{◌≡◌, ◌≢◌, ◌⊎◌, inl, inr, ℕ, ℤ, pos, ◌+ℤ◌, ◌-ℤ◌, ◌<◌, ◌≤◌, ◌<ℤ◌, ◌≤ℤ◌, Bool, true, false, cond, ◌&&◌, List, [], ◌∷◌, length, get_or, map, take, Option, Some, None, zero, suc, true≢false, Result, Ok, Err, w32, w64, FitsSigned, to_z, of_z, refl, ap, sym, subst, ◌∙◌, arith}
+use Rattle.std.specs.Prelude.{◌||◌, not, if◌then◌else◌, is_ok, slice_get}
 use Rattle.std.specs.List.{list_all}
 use Rattle.std.specs.FinMap.{FinMap}
 use Rattle.std.specs.Ordering.{int_cmp}
@@ -8,23 +8,24 @@ use Rattle.std.proofs.lemmas.Int.{ints}
 use Rattle.std.proofs.lemmas.List.{take_all}
 use Rattle.std.proofs.lemmas.List.Folds.{list_all-map, list_all_at}
 use Rattle.base_values.specs.declared.EditError.{EditError}
-use Rattle.base_values.specs.declared.EditError.TheVariants.{NoMemory, StylesShape}
-use Rattle.base_values.specs.Answers.{Returns}
+use Rattle.base_values.specs.declared.EditError.TheVariants.{InvalidArea, InvalidSheet, NoMemory, StyleValue, StylesShape}
+use Rattle.base_values.specs.Answers.{Returns, and_then, map_ok, ok_or}
 use Rattle.base_axis.specs.declared.MergedCell.{MergedCell}
 use Rattle.base_axis.specs.Along.{Along, columns, rows}
-use Rattle.base_axis.specs.Rectangles.{IsInside, is_inside}
+use Rattle.base_axis.specs.Rectangles.{IsInside, anchor_place, is_inside}
 use Rattle.base_axis.specs.laws.RectangleLaws.{inside_found}
 use Rattle.base_styles.specs.declared.Style.{Style}
 use Rattle.sheet_grid.specs.declared.LineAttr.{LineAttr}
 use Rattle.sheet_grid.specs.Sheet.{Sheet}
-use Rattle.sheet_grid.specs.Book.{Book, sheet_edit}
+use Rattle.sheet_grid.specs.Book.{Book, sheet_edit, with_sheet}
 use Rattle.planned_maps.specs.Planned.{places_of}
 use Rattle.range_styles.specs.declared.SheetPlan.{SheetPlan}
 use Rattle.range_styles.specs.declared.StyleRange.{StyleRange}
 use Rattle.range_styles.specs.StyleRanges.{touches_line}
+use Rattle.range_styles.specs.Tiles.{tiles}
 use Rattle.range_styles.specs.Styled.{StyleAt, all_accept, line_accepts, lines_accept, place_accepts, planned_styles, style_plan}
 use Rattle.edit_plans.specs.Plans.{Plans}
-use Rattle.edit_plans.specs.RangeEdits.{greater, is_tile, pasted_area, pasted_by, pasted_in, styles_pasted}
+use Rattle.edit_plans.specs.RangeEdits.{IsPasteRefusal, greater, is_tile, pasted_area, pasted_by, pasted_in, planned_in, styles_pasted, tiled_range}
 use Rattle.edit_plans.specs.laws.PlanLaws.{plan_refused}
 
 -- what holds of all mapped items, where the test passed at each, and where it failed at one
@@ -155,3 +156,40 @@ tile_passed styles is = go (is_tile styles) is
     go : (b : Bool) → ◌≡◌ {A = Result Unit EditError} (Ok tt) (cond b (Ok tt) (Err StylesShape)) → b ≡ true
     go true e = refl
     go false e = absurd (let never : ◌≡◌ {A = Result Unit EditError} (Ok tt) (Err StylesShape) = e in cc)
+
+-- ---- why styles are not pasted
+
+not_beyond : {X : Type 0} (xs : List X) (i : ℕ) → i < length xs → slice_get xs i ≡ None → ⊥
+not_beyond [] i within none = omega (arith, within)
+not_beyond (x ∷ xs) zero within none = cc
+not_beyond (x ∷ xs) (suc i) within none = not_beyond xs i (omega (arith, within)) none
+
+-- over the sheet at an index that is there, because they are no tile, or the rectangle is empty or reaches outside
+pub paste_refusals : (index : ℕ) (r : MergedCell) (styles : List (List Style)) (book : Book) (error : EditError) → index < length book.worksheets
+    → styles_pasted index r styles book ≡ Err error → IsPasteRefusal error
+unfolding styles_pasted planned_styles
+paste_refusals index r styles book error there is = shaped (is_tile styles) is
+  where
+    abbrev plan : Sheet → MergedCell → SheetPlan
+    plan sheet area = style_plan (tiled_range area) (tiles styles (anchor_place r)) sheet
+
+    planned : (sheet : Sheet) (b : Bool) → all_accept (tiled_range r) (λ place style. true) sheet ≡ b
+        → map_ok (with_sheet book index) (planned_in sheet (cond b (Ok (plan sheet r)) (Err StyleValue))) ≡ Err error → ⊥
+    planned sheet true is e = cc
+    planned sheet false is e = true≢false (sym (all_taken (tiled_range r) sheet) ∙ is)
+
+    inside : (sheet : Sheet) (b : Bool)
+        → map_ok (with_sheet book index)
+        (and_then (cond b (Ok r) (Err InvalidArea)) (λ area. planned_in sheet (cond (all_accept (tiled_range area) (λ place style. true) sheet) (Ok (plan sheet area)) (Err StyleValue)))) ≡ Err error
+        → IsPasteRefusal error
+    inside sheet true e = absurd (planned sheet (all_accept (tiled_range r) (λ place style. true) sheet) refl e)
+    inside sheet false e = let same : error ≡ InvalidArea = cc in inr same
+
+    found : (o : Option Sheet) → slice_get book.worksheets index ≡ o → and_then (ok_or InvalidSheet o) (λ sheet. map_ok (with_sheet book index) (pasted_in r styles sheet)) ≡ Err error
+        → IsPasteRefusal error
+    found (Some sheet) at e = inside sheet (is_inside r) e
+    found None at e = absurd (not_beyond book.worksheets index there at)
+
+    shaped : (b : Bool) → ◌≡◌ {A = Result Book EditError} (cond b (sheet_edit book index (pasted_in r styles)) (Err StylesShape)) (Err error) → IsPasteRefusal error
+    shaped true e = found (slice_get book.worksheets index) refl e
+    shaped false e = let same : error ≡ StylesShape = cc in inl same

@@ -1,6 +1,6 @@
 -- Edits of ranges: styles that are changed or taken away, and contents and cells that are.
 use Rattle.std.proofs.Common.{ℕ, ℤ, pos, ◌+ℤ◌, ◌-ℤ◌, Bool, true, false, ◌&&◌, List, [], ◌∷◌, length, Result, Ok, Err}
-use Rattle.std.specs.Prelude.{◌==◌, if◌then◌else◌, int_le, is_ok, nat_lt}
+use Rattle.std.specs.Prelude.{◌≡◌, ◌⊎◌, ◌==◌, if◌then◌else◌, int_le, is_ok, nat_lt}
 use Rattle.std.specs.List.{list_all}
 use Rattle.base_values.specs.declared.EditError.{EditError}
 use Rattle.base_values.specs.declared.EditError.TheVariants.{InvalidArea, StyleValue, StylesShape}
@@ -126,3 +126,7 @@ pasted_in r styles sheet =
 -- the workbook where those of the sheet at an index have it. The first refusal is that the styles are no tile
 unfoldable pub styles_pasted : ℕ → MergedCell → List (List Style) → Book → Result Book EditError
 styles_pasted index r styles book = if is_tile styles then sheet_edit book index (pasted_in r styles) else Err StylesShape
+
+-- why styles are not pasted over the sheet that is viewed
+abbrev pub IsPasteRefusal : EditError → Type 0
+IsPasteRefusal error = (error ≡ StylesShape) ⊎ (error ≡ InvalidArea)

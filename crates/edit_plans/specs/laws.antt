@@ -33,3 +33,4 @@ pub mod UpdateLaws
 pub mod FilledContents
 pub mod FillRules
 pub mod FillLaws
+pub mod SeenLaws

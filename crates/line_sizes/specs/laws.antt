@@ -1,2 +1,3 @@
 pub mod ChangedLines
 pub mod ChangeEquals
+pub mod NextShown

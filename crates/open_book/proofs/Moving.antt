@@ -14,15 +14,16 @@ use Rattle.sheet_history.specs.declared.QueueDiffs.{QueueDiffs}
 use Rattle.sheet_history.specs.Diffs.{replayed}
 use Rattle.sheet_wire.specs.QueueBytes.{IsKnownQueue, FitsQueue, spell_queue}
 use Rattle.sheet_views.specs.declared.View.{View}
-use Rattle.sheet_views.specs.Views.{is_range, range_chosen}
+use Rattle.sheet_views.specs.Views.{IsViewOf, is_range, range_chosen, range_from}
+use Rattle.sheet_views.specs.laws.ViewLaws.{viewed_there}
 use Rattle.edit_plans.specs.Edits.{Edit, changed, is_of_entries, is_of_sheets, is_silent}
 use Rattle.edit_plans.specs.Plans.{Plans, PlansSheets}
 use Rattle.edit_plans.specs.Edits.Edit.{DeleteSheet, SetField}
 use Rattle.edit_plans.specs.SheetEdits.{field_set, sheet_deleted}
 use Rattle.std.specs.Prelude.{◌&&◌}
-use Rattle.sheet_views.specs.declared.View.{View}
 use Rattle.sheet_rules.specs.laws.EntryLaws.{both}
 use Rattle.edit_plans.specs.ViewSteps.{selected_by, view_asked}
+use Rattle.edit_plans.specs.laws.SeenLaws.{some_sheet}
 use Rattle.edit_plans.specs.laws.ViewLaws.{view_kept, keeps_range}
 use Rattle.sheet_history.specs.declared.Diff.{Diff}
 use Rattle.sheet_history.specs.declared.SheetField.{SheetField}
@@ -34,6 +35,7 @@ use Rattle.open_book.specs.Opened.{document_in, session_of}
 use Rattle.open_book.specs.Sound.{Carries, IsSound, IsSoundChange}
 use Rattle.open_book.specs.Stands.{StandsFor, IsReached, IsPlanOf, IsSeenPlan, Moves, Turns}
 use Rattle.open_book.specs.Values.{Session, seeing}
+use Rattle.open_book.specs.Views.{sheet_chosen, view_at}
 use Rattle.open_book.proofs.Documents.{document_edited, document_undone, document_redone, document_taken}
 use Rattle.open_book.proofs.EntrySteps.{entries_plan}
 use Rattle.open_book.proofs.SheetSteps.{SheetLaw, sheets_plan}
@@ -228,16 +230,47 @@ field_there index value w is = edit_there index w _ is
 -- ---- views
 
 -- the document with another view stands for the state with it
-pub seen_stands : (doc : Document) (s : State) (view : View) → StandsFor doc s → StandsFor (record doc { view = view }) (record s { view = view })
-seen_stands doc s view is = record { document = ap (λ (d : Document). record d { view = view }) is.document; sound = sound_seen s is.sound view }
+pub seen_stands : (doc : Document) (s : State) (view : View) → StandsFor doc s → IsViewOf (length doc.book.worksheets) view → StandsFor (record doc { view = view }) (record s { view = view })
+seen_stands doc s view is seen = record {
+  document = ap (λ (d : Document). record d { view = view }) is.document;
+  sound = sound_seen s is.sound view (subst (λ (d : Document). IsViewOf (length d.book.worksheets) view) is.document seen);
+}
 
-pub seen_reached : (doc : Document) (view : View) → IsReached doc → IsReached (record doc { view = view })
-seen_reached doc view is = (record is.0 { view = view }, seen_stands doc is.0 view is.1)
+pub seen_reached : (doc : Document) (view : View) → IsReached doc → IsViewOf (length doc.book.worksheets) view → IsReached (record doc { view = view })
+seen_reached doc view is seen = (record is.0 { view = view }, seen_stands doc is.0 view is.1 seen)
+
+-- the view of a document that is reached is one of its workbook
+pub reached_view : (doc : Document) → IsReached doc → IsViewOf (length doc.book.worksheets) doc.view
+reached_view doc is = subst (λ (d : Document). IsViewOf (length d.book.worksheets) d.view) (sym is.1.document) is.1.sound.seen
+
+-- so is that of a sheet of the workbook that was chosen
+pub chosen_view : (index : ℕ) (doc : Document) (view : View) → IsReached doc → sheet_chosen index doc.book doc.view ≡ Ok view → IsViewOf (length doc.book.worksheets) view
+chosen_view index doc view is chosen = go (sheet_at doc.book index) chosen
+  where
+    go : (r : Result Sheet EditError) → map_ok (λ sheet. view_at index doc.book doc.book doc.view) r ≡ Ok view → IsViewOf (length doc.book.worksheets) view
+    go (Ok sheet) e =
+        let same : view_at index doc.book doc.book doc.view ≡ view = cc in
+        subst (IsViewOf (length doc.book.worksheets)) same
+        (viewed_there _ doc.book.worksheets index doc.view (some_sheet doc.book (reached_rules doc is)) (reached_view doc is).inside)
+    go (Err error) e = absurd (let never : ◌≡◌ {A = Result View EditError} (Err error) (Ok view) = e in cc)
+
+-- and that of a rectangle
+pub range_view : (first_row first_column last_row last_column : ℤ) (doc : Document) (view : View) → IsReached doc
+    → range_chosen doc.view first_row first_column last_row last_column ≡ Ok view → IsViewOf (length doc.book.worksheets) view
+range_view first_row first_column last_row last_column doc view is chosen = go (is_range first_row first_column last_row last_column) refl chosen
+  where
+    go : (b : Bool) → is_range first_row first_column last_row last_column ≡ b
+        → ◌≡◌ {A = Result View EditError} (cond b (Ok (record doc.view { range = range_from first_row first_column last_row last_column })) (Err InvalidArea)) (Ok view)
+        → IsViewOf (length doc.book.worksheets) view
+    go true inside e =
+        let same : record doc.view { range = range_from first_row first_column last_row last_column } ≡ view = cc in
+        subst (IsViewOf (length doc.book.worksheets)) same (record { there = (reached_view doc is).there; inside = inside })
+    go false inside e = absurd (let never : ◌≡◌ {A = Result View EditError} (Err InvalidArea) (Ok view) = e in cc)
 
 -- a view that was chosen is the one of the state
-pub looked : (old new : Session) (s : State) (view : View) → new ≡ seeing old view → StandsFor old.document s → Moves {T = Unit {0}} (Ok tt) new.document (looking (Ok view) s)
-looked old new s view is stands =
-    record { done = subst (λ (session : Session). StandsFor session.document (record s { view = view })) (sym is) (seen_stands old.document s view stands); refused = tt; memory = tt }
+pub looked : (old new : Session) (s : State) (view : View) → new ≡ seeing old view → IsViewOf (length old.document.book.worksheets) view → StandsFor old.document s → Moves {T = Unit {0}} (Ok tt) new.document (looking (Ok view) s)
+looked old new s view is seen stands =
+    record { done = subst (λ (session : Session). StandsFor session.document (record s { view = view })) (sym is) (seen_stands old.document s view stands seen); refused = tt; memory = tt }
 
 -- and one that was refused is not
 pub not_looked : (old : Session) (s : State) (error : EditError) → error ≢ NoMemory → StandsFor old.document s → Moves {T = Unit {0}} (Err error) old.document (looking (Err error) s)

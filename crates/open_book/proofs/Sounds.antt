@@ -17,13 +17,16 @@ use Rattle.sheet_history.specs.laws.TestedLaws.{tested_rules, entry_rules}
 use Rattle.sheet_wire.specs.QueueBytes.{IsKnownEntry, spell_queue}
 use Rattle.sheet_views.specs.declared.View.{View}
 use Rattle.edit_plans.specs.Edits.{Edit, changed, is_silent}
+use Rattle.sheet_views.specs.Views.{IsViewOf}
+use Rattle.sheet_views.specs.laws.ViewLaws.{viewed_there}
 use Rattle.edit_plans.specs.ViewSteps.{view_after}
+use Rattle.edit_plans.specs.laws.SeenLaws.{seen_after, some_sheet}
 use Rattle.open_book.specs.Machine.{Step, State, step_record, begun, undo_list, redo_list, entry, moved, edited, edit_of, undo_stale, undo_from, undo_of, redo_stale, redo_from, redo_of, seen_along, synced_of, outside, received, sync_bytes}
 use Rattle.open_book.specs.Sound.{IsSoundChange, IsSoundStep, Leads, Follows, Carries, CarriesOn, IsSound}
 use Rattle.open_book.specs.Spellable.{AreSpellable}
 
 pub sound_begun : (language : Language) (book : Book) → IsWellFormed book → IsSound (begun language book)
-sound_begun language book rules = record { present = rules; past = tt; undone = tt; carries = record { spelled = refl; led = refl }; spellable = tt; stale_undo = tt; stale_redo = tt }
+sound_begun language book rules = record { present = rules; seen = record { there = some_sheet book rules; inside = refl }; past = tt; undone = tt; carries = record { spelled = refl; led = refl }; spellable = tt; stale_undo = tt; stale_redo = tt }
 
 -- ---- lists of records
 
@@ -75,12 +78,17 @@ module _ (s : State) (sound : IsSound s) where
   pub redo_spellable : AllByRecursion AreSpellable (redo_list s)
   redo_spellable = all_append AreSpellable (map step_record s.undone) s.stale_redo (undone_spellable s.undone s.present sound.undone) sound.stale_redo
 
+  -- what is seen of a well-formed workbook to which a list led
+  seen_followed : (kind : DiffType) (list : List Diff) (later : Book) → IsWellFormed later → IsViewOf (length later.worksheets) (seen_along kind list later s)
+  seen_followed kind list later rules = viewed_there _ later.worksheets _ s.view (some_sheet later rules) sound.seen.inside
+
   -- a list that was followed and sent
   sound_moved : (kind : DiffType) (list : List Diff) (later : Book) (view : View) (past undone : List Step) (stale_undo stale_redo : List (List Diff))
-      → IsWellFormed later → follow kind s.present list ≡ Ok later → AreSpellable list → Leads past later → Follows undone later
+      → IsWellFormed later → IsViewOf (length later.worksheets) view → follow kind s.present list ≡ Ok later → AreSpellable list → Leads past later → Follows undone later
       → AllByRecursion AreSpellable stale_undo → AllByRecursion AreSpellable stale_redo → IsSound (moved kind list later view past undone stale_undo stale_redo s)
-  sound_moved kind list later view past undone stale_undo stale_redo rules is spellable leads follows one two = record {
+  sound_moved kind list later view past undone stale_undo stale_redo rules seen is spellable leads follows one two = record {
     present = rules;
+    seen = seen;
     past = leads;
     undone = follows;
     carries = carries_on s.synced (s.sent ++ entry kind list ∷ []) later (replays_more s.synced s.sent s.present later kind list (leads_on s sound.carries) is);
@@ -91,10 +99,11 @@ module _ (s : State) (sound : IsSound s) where
 
   -- ---- edits
 
-  sound_edited : (edit : Edit) (later : Book) → IsSoundStep (record { edit = edit; before = s.present; after = later }) → IsSound (edited edit s later)
-  sound_edited edit later step =
+  sound_edited : (edit : Edit) (later : Book) → changed edit s.present ≡ Ok later → IsSoundStep (record { edit = edit; before = s.present; after = later }) → IsSound (edited edit s later)
+  sound_edited edit later how step =
       let it : Step = record { edit = edit; before = s.present; after = later } in
-      sound_moved Redo (step_record it) later (view_after edit s.present later s.view) (it ∷ s.past) [] s.stale_undo [] step.after step.forth step.spellable (refl, step, sound.past) tt sound.stale_undo tt
+      sound_moved Redo (step_record it) later (view_after edit s.present later s.view) (it ∷ s.past) [] s.stale_undo [] step.after
+      (seen_after edit s.present later s.view step.after how sound.seen.inside) step.forth step.spellable (refl, step, sound.past) tt sound.stale_undo tt
 
   -- the state after an edit that is not refused is sound, if its step is
   pub sound_edit : (edit : Edit) (next : State) → IsSoundChange edit s.present → edit_of edit s ≡ Ok next → IsSound next
@@ -102,7 +111,7 @@ module _ (s : State) (sound : IsSound s) where
     where
       go : is_silent edit s.present ≡ false → (r : Result Book EditError) → changed edit s.present ≡ r → map_ok (edited edit s) r ≡ Ok next → IsSound next
       go loud (Err error) how e = absurd (let never : ◌≡◌ {A = Result State EditError} (Err error) (Ok next) = e in cc)
-      go loud (Ok later) how e = let same : edited edit s later ≡ next = cc in subst IsSound same (sound_edited edit later (change loud later how))
+      go loud (Ok later) how e = let same : edited edit s later ≡ next = cc in subst IsSound same (sound_edited edit later how (change loud later how))
 
       either : (b : Bool) → is_silent edit s.present ≡ b → ◌≡◌ {A = Result State EditError} (cond b (Ok s) (map_ok (edited edit s) (changed edit s.present))) (Ok next) → IsSound next
       either true silent e = let same : s ≡ next = cc in subst IsSound same sound
@@ -120,7 +129,7 @@ module _ (s : State) (sound : IsSound s) where
       go : (r : Result Book EditError) → book_before s.present list ≡ r → map_ok (stale_undone list stale) r ≡ Ok next → IsSound next
       go (Ok earlier) how e =
           let same : stale_undone list stale earlier ≡ next = cc in
-          subst IsSound same (sound_moved Undo list earlier (seen_along Undo list earlier s) [] [] stale (list ∷ redo_list s) (tested_rules _ _ earlier how) how all.0 tt tt all.1 (all.0, redo_spellable))
+          subst IsSound same (sound_moved Undo list earlier (seen_along Undo list earlier s) [] [] stale (list ∷ redo_list s) (tested_rules _ _ earlier how) (seen_followed Undo list earlier (tested_rules _ _ earlier how)) how all.0 tt tt all.1 (all.0, redo_spellable))
       go (Err error) how e = absurd (let never : ◌≡◌ {A = Result State EditError} (Err error) (Ok next) = e in cc)
 
   undo_from_sound : (past : List Step) (next : State) → Leads past s.present → undo_from past s ≡ Ok next → IsSound next
@@ -128,7 +137,7 @@ module _ (s : State) (sound : IsSound s) where
   undo_from_sound (step ∷ past) next leads is =
       let same : moved Undo (step_record step) step.before (seen_along Undo (step_record step) step.before s) past (step ∷ s.undone) s.stale_undo s.stale_redo s ≡ next = cc in
       subst IsSound same
-      (sound_moved Undo (step_record step) step.before (seen_along Undo (step_record step) step.before s) past (step ∷ s.undone) s.stale_undo s.stale_redo leads.1.before
+      (sound_moved Undo (step_record step) step.before (seen_along Undo (step_record step) step.before s) past (step ∷ s.undone) s.stale_undo s.stale_redo leads.1.before (seen_followed Undo (step_record step) step.before leads.1.before)
       (ap (λ book. book_before book (step_record step)) (sym leads.0) ∙ leads.1.back) leads.1.spellable leads.2
       (refl, leads.1, subst (Follows s.undone) (sym leads.0) sound.undone) sound.stale_undo sound.stale_redo)
 
@@ -147,7 +156,7 @@ module _ (s : State) (sound : IsSound s) where
       go : (r : Result Book EditError) → book_after s.present list ≡ r → map_ok (stale_redone list stale) r ≡ Ok next → IsSound next
       go (Ok later) how e =
           let same : stale_redone list stale later ≡ next = cc in
-          subst IsSound same (sound_moved Redo list later (seen_along Redo list later s) [] [] (list ∷ undo_list s) stale (tested_rules _ _ later how) how all.0 tt tt (all.0, undo_spellable) all.1)
+          subst IsSound same (sound_moved Redo list later (seen_along Redo list later s) [] [] (list ∷ undo_list s) stale (tested_rules _ _ later how) (seen_followed Redo list later (tested_rules _ _ later how)) how all.0 tt tt (all.0, undo_spellable) all.1)
       go (Err error) how e = absurd (let never : ◌≡◌ {A = Result State EditError} (Err error) (Ok next) = e in cc)
 
   redo_from_sound : (undone : List Step) (next : State) → Follows undone s.present → redo_from undone s ≡ Ok next → IsSound next
@@ -155,7 +164,7 @@ module _ (s : State) (sound : IsSound s) where
   redo_from_sound (step ∷ undone) next follows is =
       let same : moved Redo (step_record step) step.after (seen_along Redo (step_record step) step.after s) (step ∷ s.past) undone s.stale_undo s.stale_redo s ≡ next = cc in
       subst IsSound same
-      (sound_moved Redo (step_record step) step.after (seen_along Redo (step_record step) step.after s) (step ∷ s.past) undone s.stale_undo s.stale_redo follows.1.after
+      (sound_moved Redo (step_record step) step.after (seen_along Redo (step_record step) step.after s) (step ∷ s.past) undone s.stale_undo s.stale_redo follows.1.after (seen_followed Redo (step_record step) step.after follows.1.after)
       (ap (λ book. book_after book (step_record step)) (sym follows.0) ∙ follows.1.forth) follows.1.spellable
       (refl, follows.1, subst (Leads s.past) (sym follows.0) sound.past) follows.2 sound.stale_undo sound.stale_redo)
 
@@ -164,9 +173,10 @@ module _ (s : State) (sound : IsSound s) where
 
   -- ---- views, sync, and entries of other copies
 
-  pub sound_seen : (view : View) → IsSound (record s { view = view })
-  sound_seen view = record {
+  pub sound_seen : (view : View) → IsViewOf (length s.present.worksheets) view → IsSound (record s { view = view })
+  sound_seen view seen = record {
     present = sound.present;
+    seen = seen;
     past = sound.past;
     undone = sound.undone;
     carries = sound.carries;
@@ -176,7 +186,7 @@ module _ (s : State) (sound : IsSound s) where
   }
 
   pub sound_sync : IsSound (synced_of s)
-  sound_sync = record { present = sound.present; past = sound.past; undone = sound.undone; carries = record { spelled = refl; led = refl }; spellable = tt; stale_undo = sound.stale_undo; stale_redo = sound.stale_redo }
+  sound_sync = record { present = sound.present; seen = sound.seen; past = sound.past; undone = sound.undone; carries = record { spelled = refl; led = refl }; spellable = tt; stale_undo = sound.stale_undo; stale_redo = sound.stale_redo }
 
   pub sound_received : (at : ℕ) (one : QueueDiffs) (next : State) → received at one s ≡ Ok next → IsSound next
   sound_received at one next is = go (in_entry at (follow one.kind s.present one.list)) refl is
@@ -186,6 +196,7 @@ module _ (s : State) (sound : IsSound s) where
           let same : outside one s later ≡ next = cc in
           subst IsSound same (record {
             present = entry_rules at one.kind s.present one.list later how;
+            seen = seen_followed one.kind one.list later (entry_rules at one.kind s.present one.list later how);
             past = tt;
             undone = tt;
             carries = tt;

@@ -1,5 +1,5 @@
 -- What holds of every state that the machine reaches.
-use Rattle.std.proofs.Common.{◌≡◌, ℕ, false, List, [], ◌∷◌, Result, Ok}
+use Rattle.std.proofs.Common.{◌≡◌, ℕ, false, List, [], ◌∷◌, length, Result, Ok}
 use Rattle.std.specs.Prelude.{IfSome, IsOkAnd}
 use Rattle.std.specs.List.{AllByRecursion}
 use Rattle.base_values.specs.declared.EditError.{EditError}
@@ -10,6 +10,7 @@ use Rattle.sheet_grid.specs.Book.{Book, ids_of, sheet_at}
 use Rattle.sheet_naming.specs.NextIds.{next_id}
 use Rattle.sheet_rules.specs.WellFormed.{IsWellFormed}
 use Rattle.sheet_lines.specs.Followed.{book_followed}
+use Rattle.sheet_views.specs.Views.{IsViewOf}
 use Rattle.sheet_history.specs.declared.Diff.{Diff}
 use Rattle.sheet_history.specs.declared.LineAxis.{LineAxis}
 use Rattle.sheet_history.specs.declared.QueueDiffs.{QueueDiffs}
@@ -94,9 +95,11 @@ abbrev pub WhereCarried : List ℕ → Book → (Book → Type 0) → Type 0
 WhereCarried bytes earlier Said = (entries : List QueueDiffs) (later : Book) → FitsQueue entries → Carries entries bytes earlier later → Said later
 
 -- the present workbook is well-formed, the steps that can be undone lead to it and those that were undone lead on from it, and the bytes
--- of a sync carry the workbook of the last one, where that is known, to it; each list that is kept can be spelled
+-- of a sync carry the workbook of the last one, where that is known, to it; each list that is kept can be spelled; and the view names a
+-- sheet of the present workbook, and a rectangle inside it
 pub record IsSound (s : State) : Type 0 where
   pub present : IsWellFormed s.present
+  pub seen : IsViewOf (length s.present.worksheets) s.view
   pub past : Leads s.past s.present
   pub undone : Follows s.undone s.present
   pub carries : CarriesOn (sync_bytes s) s

@@ -1,5 +1,5 @@
 -- What a user has selected of a workbook.
-use Rattle.std.specs.Prelude.{ℤ, pos, Bool, ◌&&◌, int_le, List, [], ◌∷◌, Result, Ok, Err, if◌then◌else◌}
+use Rattle.std.specs.Prelude.{◌≡◌, ◌<◌, ℕ, ℤ, pos, Bool, true, false, ◌&&◌, int_le, List, [], ◌∷◌, Result, Ok, Err, if◌then◌else◌}
 use Rattle.base_values.specs.declared.EditError.{EditError}
 use Rattle.base_values.specs.declared.EditError.TheVariants.{InvalidArea}
 use Rattle.sheet_views.specs.declared.view.View.{View}
@@ -27,3 +27,13 @@ is_range first_row first_column last_row last_column = are_lines (pos 1048576) f
 abbrev pub range_chosen : View → ℤ → ℤ → ℤ → ℤ → Result View EditError
 range_chosen view first_row first_column last_row last_column =
     if is_range first_row first_column last_row last_column then Ok (record view { range = range_from first_row first_column last_row last_column }) else Err InvalidArea
+
+-- whether numbers are a rectangle inside a sheet
+abbrev pub is_rectangle : List ℤ → Bool
+is_rectangle (first_row ∷ first_column ∷ last_row ∷ last_column ∷ []) = is_range first_row first_column last_row last_column
+is_rectangle numbers = false
+
+-- it names one of so many sheets, and a rectangle inside it
+pub record IsViewOf (count : ℕ) (view : View) : Type 0 where
+  pub there : view.sheet < count
+  pub inside : is_rectangle view.range ≡ true

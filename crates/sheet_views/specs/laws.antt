@@ -1,1 +1,2 @@
 pub mod ViewEquals
+pub mod ViewLaws

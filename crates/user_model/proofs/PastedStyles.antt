@@ -1,9 +1,9 @@
 -- What is seen where styles are pasted.
-use Rattle.std.proofs.Common.{◌≡◌, ℕ, Bool, true, false, cond, List, Result, Ok, Err, refl, ap, sym, ◌∙◌}
-use Rattle.std.specs.Prelude.{IsOk}
+use Rattle.std.proofs.Common.{◌≡◌, ◌≢◌, ℕ, Bool, true, false, cond, List, Result, Ok, Err, refl, ap, sym, ◌∙◌}
+use Rattle.std.specs.Prelude.{IfErr, IsOk}
 use Rattle.std.specs.Cmp.{unsigned_Decides}
 use Rattle.base_values.specs.declared.EditError.{EditError}
-use Rattle.base_values.specs.declared.EditError.TheVariants.{InvalidArea, StylesShape, StyleValue}
+use Rattle.base_values.specs.declared.EditError.TheVariants.{InvalidArea, NoMemory, StylesShape, StyleValue}
 use Rattle.base_values.specs.Answers.{and_then, map_ok}
 use Rattle.base_axis.specs.declared.MergedCell.{MergedCell}
 use Rattle.base_axis.specs.Rectangles.{anchor_place, is_inside, last_column, last_row}
@@ -17,8 +17,13 @@ use Rattle.range_styles.specs.Styled.{planned_styles}
 use Rattle.range_styles.specs.Tiles.{tiles}
 use Rattle.edit_plans.specs.Edits.{changed}
 use Rattle.edit_plans.specs.Edits.Edit.{PasteStyles}
-use Rattle.edit_plans.specs.RangeEdits.{is_tile, pasted_in, planned_in, styles_pasted, tiled_range}
+use Rattle.edit_plans.specs.RangeEdits.{IsPasteRefusal, is_tile, pasted_by, pasted_in, planned_in, styles_pasted, tiled_range}
 use Rattle.edit_plans.specs.ViewSteps.{view_asked}
+use Rattle.edit_plans.proofs.Pasting.{paste_refusals}
+use Rattle.open_book.specs.Document.{Document}
+use Rattle.open_book.specs.Machine.{State, edited, pasted_edit}
+use Rattle.open_book.specs.Sound.{IsSound}
+use Rattle.open_book.specs.Stands.{IsReached, Steps}
 use Rattle.open_book.specs.Views.{seen_by_pasting}
 
 -- styles that were pasted lie inside the sheet
@@ -74,3 +79,19 @@ pub seen_alike : (index : ℕ) (r s : MergedCell) (styles : List (List Style)) (
 seen_alike index r s styles book view alike same accepted =
     let inside : is_inside s ≡ true = pasted_inside view.sheet s styles book accepted in
     sym (ap (λ (t : MergedCell). seen_by_pasting t view) (same (alike ∙ inside)) ∙ seen_pasted s styles book view inside)
+
+-- ---- refusals
+
+refused_of : {A B : Type 0} (f : A → B) (r : Result A EditError) (error : EditError) → map_ok f r ≡ Err error → r ≡ Err error
+refused_of f (Ok value) error is = absurd (cc)
+refused_of f (Err other) error is = cc
+
+-- styles are not pasted because they are no tile, or their rectangle reaches outside: the viewed sheet is there
+pasting_refused : (s : State) → IsSound s → (styles : List (List Style)) (error : EditError) → pasted_edit styles s ≡ Err error → IsPasteRefusal error
+pasting_refused s sound styles error is =
+    paste_refusals s.view.sheet (pasted_by styles s.view.range) styles s.present error sound.seen.there (refused_of (edited (PasteStyles s.view.sheet (pasted_by styles s.view.range) styles) s) _ error is)
+
+pub only_refusals : (result : Result (Unit {0}) EditError) (doc new : Document) (styles : List (List Style)) → IsReached doc → Steps result doc new (pasted_edit styles)
+    → IfErr result (λ error. error ≢ NoMemory → IsPasteRefusal error)
+only_refusals (Ok u) doc new styles reached steps = tt
+only_refusals (Err error) doc new styles reached steps = λ other. pasting_refused reached.0 reached.1.sound styles error ((steps reached.0 reached.1).refused other)

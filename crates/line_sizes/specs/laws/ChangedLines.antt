@@ -1,4 +1,4 @@
--- Lines that are changed, and the line that is selected where lines are hidden, told line by line.
+-- Lines that are changed, told line by line.
 use Rattle.std.proofs.Common.{◌≡◌, ◌≢◌, ℕ, zero, suc, ◌+◌, ◌<◌, ℤ, pos, ◌+ℤ◌, ◌-ℤ◌, ◌≤ℤ◌, Bool, true, false, cond, Some, refl, ap, sym, subst, ◌∙◌, arith}
 use Rattle.std.specs.Prelude.{nat_lt}
 use Rattle.std.specs.Ordering.{int_cmp}
@@ -9,10 +9,8 @@ use Rattle.std.proofs.lemmas.Map.Lookups.{exact_signed}
 use Rattle.base_values.specs.laws.KeyMap.{get-with_entry}
 use Rattle.base_maps.specs.laws.Keys.{apart_keys, own_key}
 use Rattle.sheet_grid.specs.declared.LineAttr.{LineAttr}
-use Rattle.sheet_grid.specs.Lines.{is_hidden}
 use Rattle.line_sizes.specs.declared.change.LineChange.{LineChange}
 use Rattle.line_sizes.specs.LineChanges.{changed_entry, lines_changed}
-use Rattle.line_sizes.specs.ShownLines.{shown_from, shown_before}
 
 -- ---- lines that are changed
 
@@ -64,69 +62,3 @@ module _ (change : LineChange) (lines : FinMap int_cmp LineAttr) (first : ℤ) w
       go false e earlier =
           let same : more ≡ k = grind (arith, e, less) in
           subst Made same last
-
--- ---- the line that is selected
-
--- a line that is shown, so many behind a first one, where those between are hidden
-pub record IsNextShown (lines : FinMap int_cmp LineAttr) (at : ℕ → ℤ) (count : ℕ) (line : ℤ) : Type 0 where
-  pub index : ℕ
-  pub within : index < count
-  pub place : line ≡ at index
-  pub shown : is_hidden (get lines line) ≡ false
-  pub hidden : (k : ℕ) → k < index → is_hidden (get lines (at k)) ≡ true
-
-module _ (lines : FinMap int_cmp LineAttr) where
-  -- the first one is shown
-  here : (at : ℕ → ℤ) (more : ℕ) (line : ℤ) → line ≡ at 0 → is_hidden (get lines line) ≡ false → IsNextShown lines at (suc more) line
-  here at more line place shown = record { index = 0; within = omega arith; place = place; shown = shown; hidden = λ k less. absurd (omega arith) }
-
-  -- it is hidden, and the line is the next one that is shown behind it
-  further : (at next : ℕ → ℤ) → ((k : ℕ) → next k ≡ at (suc k)) → is_hidden (get lines (at 0)) ≡ true → (more : ℕ) (line : ℤ) → IsNextShown lines next more line
-      → IsNextShown lines at (suc more) line
-  further at next steps first more line found = record {
-    index = suc found.index;
-    within = let less = found.within in omega arith;
-    place = found.place ∙ steps found.index;
-    shown = found.shown;
-    hidden = λ k. behind k;
-  }
-    where
-      behind : (k : ℕ) → k < suc found.index → is_hidden (get lines (at k)) ≡ true
-      behind zero less = first
-      behind (suc k) less = ap (λ line. is_hidden (get lines line)) (sym (steps k)) ∙ found.hidden k (omega arith)
-
-  -- the walk behind lines finds the next one that is shown
-  pub next_from : (count : ℕ) (first line : ℤ) → shown_from lines first count ≡ Some line → IsNextShown lines (λ k. first +ℤ pos k) count line
-  next_from zero first line found = absurd (cc)
-  next_from (suc more) first line found = go (is_hidden (get lines first)) refl found (λ rest. next_from more (first +ℤ pos 1) line rest)
-    where
-      start : first ≡ first +ℤ pos 0
-      start = omega (arith, ints)
-
-      go : (b : Bool) → is_hidden (get lines first) ≡ b → cond b (shown_from lines (first +ℤ pos 1) more) (Some first) ≡ Some line
-          → (shown_from lines (first +ℤ pos 1) more ≡ Some line → IsNextShown lines (λ k. (first +ℤ pos 1) +ℤ pos k) more line)
-          → IsNextShown lines (λ k. first +ℤ pos k) (suc more) line
-      go true hidden rest walk =
-          further (λ k. first +ℤ pos k) (λ k. (first +ℤ pos 1) +ℤ pos k) (λ k. omega (arith, ints)) (ap (λ line. is_hidden (get lines line)) (sym start) ∙ hidden) more line
-          (walk rest)
-      go false shown rest walk =
-          let same : line ≡ first = cc in
-          here (λ k. first +ℤ pos k) more line (same ∙ start) (ap (λ line. is_hidden (get lines line)) same ∙ shown)
-
-  -- the walk before lines finds the nearest one
-  pub next_before : (count : ℕ) (first line : ℤ) → shown_before lines first count ≡ Some line → IsNextShown lines (λ k. first -ℤ pos k) count line
-  next_before zero first line found = absurd (cc)
-  next_before (suc more) first line found = go (is_hidden (get lines first)) refl found (λ rest. next_before more (first -ℤ pos 1) line rest)
-    where
-      start : first ≡ first -ℤ pos 0
-      start = omega (arith, ints)
-
-      go : (b : Bool) → is_hidden (get lines first) ≡ b → cond b (shown_before lines (first -ℤ pos 1) more) (Some first) ≡ Some line
-          → (shown_before lines (first -ℤ pos 1) more ≡ Some line → IsNextShown lines (λ k. (first -ℤ pos 1) -ℤ pos k) more line)
-          → IsNextShown lines (λ k. first -ℤ pos k) (suc more) line
-      go true hidden rest walk =
-          further (λ k. first -ℤ pos k) (λ k. (first -ℤ pos 1) -ℤ pos k) (λ k. omega (arith, ints)) (ap (λ line. is_hidden (get lines line)) (sym start) ∙ hidden) more line
-          (walk rest)
-      go false shown rest walk =
-          let same : line ≡ first = cc in
-          here (λ k. first -ℤ pos k) more line (same ∙ start) (ap (λ line. is_hidden (get lines line)) same ∙ shown)

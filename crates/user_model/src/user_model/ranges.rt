@@ -1,9 +1,10 @@
 //! Styles of ranges, and ranges that are cleared.
 
-ghost use Rattle.std.specs.Prelude.{◌≡◌, map, OnOk, OnErr};
+ghost use Rattle.std.specs.Prelude.{◌≡◌, ◌≢◌, map, IfErr, OnOk, OnErr};
+ghost use Rattle.base_values.specs.declared.EditError.TheVariants.{NoMemory};
 ghost use Rattle.range_styles.specs.declared.Clearing.TheVariants.{Cells, Contents};
 ghost use Rattle.edit_plans.specs.Edits.Edit.{ClearFormatting, ClearRange, PasteStyles, SetRangeStyle};
-ghost use Rattle.edit_plans.specs.RangeEdits.{pasted_by};
+ghost use Rattle.edit_plans.specs.RangeEdits.{IsPasteRefusal};
 ghost use Rattle.open_book.specs.Machine.{edit_of, pasted_edit};
 ghost use Rattle.user_model.specs.Reading.{rectangle_of};
 ghost use Rattle.open_book.specs.Stands.{Steps};
@@ -164,6 +165,7 @@ impl<R: Recalc + Drop> UserModel<R> {
     /// where there is not enough. An error changes nothing.
     pub fn on_paste_styles(&mut self, styles: &[Vec<Style>]) -> Result<(), EditError>
         ensures next { Steps result self.old.document self.new.document (pasted_edit (map (λ row. row.items) styles.now)) }
+        ensures refusals { IfErr result (λ error. error ≢ NoMemory → IsPasteRefusal error) }
         ensures output { OnOk result (IsMade R.Fits self.new) }
         ensures err { OnErr result (self.new ≡ self.old) }
         ensures paused { self.new.paused ≡ self.old.paused }

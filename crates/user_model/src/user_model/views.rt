@@ -1,9 +1,9 @@
 //! What a user has selected of a workbook.
 
-ghost use Rattle.std.specs.Prelude.{◌≡◌, ◌≢◌, Err};
+ghost use Rattle.std.specs.Prelude.{◌≡◌, ◌≢◌, length, Err, IfOk};
 ghost use Rattle.base_values.specs.Answers.{Edits, map_ok};
 ghost use Rattle.base_values.specs.declared.EditError.TheVariants.{NoMemory};
-ghost use Rattle.sheet_views.specs.Views.{range_chosen};
+ghost use Rattle.sheet_views.specs.Views.{IsViewOf, range_chosen};
 ghost use Rattle.open_book.specs.Machine.{looking, range_selected, sheet_selected};
 ghost use Rattle.open_book.specs.Stands.{Moves, OnStates, Steps};
 ghost use Rattle.open_book.specs.Values.{seeing};
@@ -30,6 +30,7 @@ impl<R: Recalc + Drop> UserModel<R> {
 
     /// Puts another view in place of the one before.
     fn put_view(&mut self, view: View)
+        requires { IsViewOf (length self.now.document.book.worksheets) view }
         ensures { self.new ≡ seeing self.old view }
     {
         self.book.view = view;
@@ -37,7 +38,8 @@ impl<R: Recalc + Drop> UserModel<R> {
 
     /// Puts a view that was chosen in place of the one before, or refuses as the choice does.
     fn look(&mut self, chosen: Result<View, EditError>) -> Result<(), EditError>
-        requires { chosen ≢ Err NoMemory }
+        requires sure { chosen ≢ Err NoMemory }
+        requires seen { IfOk chosen (IsViewOf (length self.now.document.book.worksheets)) }
         ensures seen { Edits result self.old self.new (map_ok (seeing self.old) chosen) }
         ensures next { OnStates self.old.document (λ state. Moves result self.new.document (looking chosen state)) }
         ensures sure { result ≢ Err NoMemory }

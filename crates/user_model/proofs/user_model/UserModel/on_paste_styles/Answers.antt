@@ -9,10 +9,10 @@ use Rattle.edit_plans.specs.Plans.{Plans}
 use Rattle.edit_plans.specs.RangeEdits.{pasted_by}
 use Rattle.open_book.specs.Machine.{edit_of}
 use Rattle.open_book.specs.Opened.{document_in}
-use Rattle.open_book.specs.Stands.{Moves}
+use Rattle.open_book.specs.Stands.{IsReached, Moves}
 use Rattle.open_book.specs.Values.{Session}
 use Rattle.open_book.proofs.Moving.{reached_rules, seen_plan_of}
-use Rattle.user_model.proofs.PastedStyles.{pasted_alike, seen_alike}
+use Rattle.user_model.proofs.PastedStyles.{only_refusals, pasted_alike, seen_alike}
 use Rattle.user_model.proofs.user_model.UserModel.on_paste_styles.Goals as goal
 
 pub plan_pasted-plan-requires : goal.plan_pasted-plan-requires
@@ -47,3 +47,8 @@ returns-clause-next g c = λ state stands.
     (pasted_alike view.sheet c.pasted_rectangle-area.result (pasted_by rows view.range) rows c.self.inside.book.workbook c.pasted_rectangle-area.ensures.inside c.pasted_rectangle-area.ensures.area)
     c.plan_pasted-plan.ensures.planned))
     stands)
+
+pub returns-clause-refusals : goal.returns-clause-refusals
+returns-clause-refusals g c =
+    only_refusals c.make_seen.result c.args.self.now.document c.make_seen.new.self.document _
+    (subst (λ (session : Session). IsReached session.document) c.self.view_is c.self.invariant) (returns-clause-next g c)

@@ -49,6 +49,8 @@ impl Model for Computed {
     ghost coded = { Prim.hlevel (codes, coded_sheet_place, node.the_row.coded, fin.code) };
 
     ghost view = { λ computed. computed.values };
+
+    ghost inverse = { λ values. record { values = values } };
 }
 
 impl Computed {

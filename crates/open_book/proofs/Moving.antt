@@ -1,6 +1,6 @@
 -- What is said of documents holds of the states that they stand for.
 use Rattle.std.proofs.Common.{◌≡◌, ◌≢◌, ◌<◌, length, ℕ, ℤ, Bool, true, false, cond, List, [], Result, Ok, Err, refl, ap, sym, subst, ◌∙◌}
-use Rattle.std.specs.Prelude.{OnOk, OnErr, IfErr, IfSome, IsOk, IsOkAnd, IsTrue}
+use Rattle.std.specs.Prelude.{OnOk, OnErr, IfErr, IfOk, IfSome, IsOk, IsOkAnd, IsTrue}
 use Rattle.std.proofs.Common.{Option, Some, None}
 use Rattle.std.specs.Prelude.{slice_get}
 use Rattle.std.proofs.lemmas.Option.{slice_get_within}
@@ -266,6 +266,15 @@ range_view first_row first_column last_row last_column doc view is chosen = go (
         let same : record doc.view { range = range_from first_row first_column last_row last_column } ≡ view = cc in
         subst (IsViewOf (length doc.book.worksheets)) same (record { there = (reached_view doc is).there; inside = inside })
     go false inside e = absurd (let never : ◌≡◌ {A = Result View EditError} (Err InvalidArea) (Ok view) = e in cc)
+
+pub sheet_seen : (result : Result View EditError) (index : ℕ) (doc : Document) → IsReached doc → result ≡ sheet_chosen index doc.book doc.view → IfOk result (IsViewOf (length doc.book.worksheets))
+sheet_seen (Ok view) index doc reached is = chosen_view index doc view reached (sym is)
+sheet_seen (Err error) index doc reached is = tt
+
+pub range_seen : (result : Result View EditError) (first_row first_column last_row last_column : ℤ) (doc : Document) → IsReached doc
+    → result ≡ range_chosen doc.view first_row first_column last_row last_column → IfOk result (IsViewOf (length doc.book.worksheets))
+range_seen (Ok view) first_row first_column last_row last_column doc reached is = range_view first_row first_column last_row last_column doc view reached (sym is)
+range_seen (Err error) first_row first_column last_row last_column doc reached is = tt
 
 -- a view that was chosen is the one of the state
 pub looked : (old new : Session) (s : State) (view : View) → new ≡ seeing old view → IsViewOf (length old.document.book.worksheets) view → StandsFor old.document s → Moves {T = Unit {0}} (Ok tt) new.document (looking (Ok view) s)

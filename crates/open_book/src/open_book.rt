@@ -1,4 +1,4 @@
-ghost use Rattle.std.specs.Prelude.{◌≡◌, ◌≢◌, ◌||◌, length, true, Ok, Err, [], ◌∷◌, pos, take, int_lt, nat_lt, IfOk, IfNone, IfSome, IsOk, IsTrue, OnOk, OnErr, IsOkUnless};
+ghost use Rattle.std.specs.Prelude.{◌≡◌, ◌≢◌, ◌||◌, length, true, Ok, Err, [], ◌∷◌, pos, take, int_lt, nat_lt, IfOk, IfErr, IfNone, IfSome, IsOk, IsTrue, OnOk, OnErr, IsOkUnless};
 ghost use Rattle.std.specs.Ordering.{int_eq};
 ghost use Rattle.base_values.specs.Answers.{Returns, Changes, Edits, map_ok};
 ghost use Rattle.base_values.specs.declared.EditError.TheVariants.{NoMemory};
@@ -302,6 +302,7 @@ impl OpenBook {
         ensures output { OnOk result (AreMade R.Fits results.new.paused self.new.workbook results.new.values) }
         ensures err { OnErr result (results.new ≡ results.old) }
         ensures paused { results.new.paused ≡ results.old.paused }
+        ensures only { IsOkUnless result NoMemory }
     {
         let length = self.queue.len();
         let was = viewed_id(self.workbook.worksheets(), seen);
@@ -326,8 +327,9 @@ impl OpenBook {
         }
     }
 
-    /// Makes what the plan of an edit says, and records it, or refuses as the plan does. The edit
-    /// selects the sheet at an index, and asks for a view of the sheet that was viewed.
+    /// Makes what the plan of an edit says, and records it, or refuses as the plan does: then nobody is
+    /// asked for values. The edit selects the sheet at an index, and asks for a view of the sheet that
+    /// was viewed.
     pub fn make<R: Recalc>(
         &mut self,
         results: &mut Results,
@@ -343,6 +345,7 @@ impl OpenBook {
         ensures output { OnOk result (IsMade R.Fits (session_of self.new results.new)) }
         ensures err { OnErr result (results.new ≡ results.old) }
         ensures paused { results.new.paused ≡ results.old.paused }
+        ensures unasked { IfErr result (λ error. error ≢ NoMemory → recalc.new ≡ recalc.old) }
     {
         let list = plan?;
         self.apply(results, recalc, list, selected, seen)
@@ -395,6 +398,7 @@ impl OpenBook {
         ensures output { OnOk result (IsMade R.Fits (session_of self.new results.new)) }
         ensures err { OnErr result (results.new ≡ results.old) }
         ensures paused { results.new.paused ≡ results.old.paused }
+        ensures only { IsOkUnless result NoMemory }
     {
         let (later, kept) = line_edit(self.alloc, &self.workbook, id, edit)?;
         let list = lines_change(self.alloc, id, axis, edit.kind, kept)?;
@@ -402,7 +406,8 @@ impl OpenBook {
     }
 
     /// Inserts lines in the sheet at an index, deletes them or moves them, and puts the record on
-    /// the undo stack and in the queue. The refusals are those of the plan.
+    /// the undo stack and in the queue. The refusals are those of the plan; then nobody is asked for
+    /// values.
     pub fn edit_lines<R: Recalc, A: Axis>(
         &mut self,
         results: &mut Results,
@@ -418,6 +423,7 @@ impl OpenBook {
         ensures output { OnOk result (IsMade R.Fits (session_of self.new results.new)) }
         ensures err { OnErr result (results.new ≡ results.old) }
         ensures paused { results.new.paused ≡ results.old.paused }
+        ensures unasked { IfErr result (λ error. error ≢ NoMemory → recalc.new ≡ recalc.old) }
     {
         let (id, edit) = plan_lines::<A>(&self.workbook, sheet, kind)?;
         self.make_lines(results, recalc, axis, id, &edit)
@@ -443,6 +449,7 @@ impl OpenBook {
         ensures output { OnOk result (Makes (is_silent_edit (MoveLines sheet axis first count delta) self.old.workbook) R.Fits (session_of self.old results.old) (session_of self.new results.new)) }
         ensures err { OnErr result (results.new ≡ results.old) }
         ensures paused { results.new.paused ≡ results.old.paused }
+        ensures unasked { IfErr result (λ error. error ≢ NoMemory → recalc.new ≡ recalc.old) }
     {
         if is_silent(count, delta) {
             return Ok(());

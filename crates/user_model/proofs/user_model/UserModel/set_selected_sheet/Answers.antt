@@ -1,11 +1,20 @@
-use Rattle.std.proofs.Common.{ap, subst, ◌∙◌}
+use Rattle.std.proofs.Common.{ap, length, subst, ◌∙◌}
+use Rattle.std.specs.Prelude.{IfOk}
 use Rattle.base_values.specs.Answers.{Edits, map_ok}
 use Rattle.open_book.specs.Document.{Document}
 use Rattle.open_book.specs.Machine.{looking}
+use Rattle.open_book.specs.Opened.{document_in}
 use Rattle.open_book.specs.Stands.{Moves}
 use Rattle.open_book.specs.Values.{Session, seeing}
+use Rattle.sheet_views.specs.Views.{IsViewOf}
+use Rattle.open_book.proofs.Moving.{sheet_seen}
 use Rattle.open_book.specs.Views.{sheet_chosen}
 use Rattle.user_model.proofs.user_model.UserModel.set_selected_sheet.Goals as goal
+
+pub look-requires-clause-seen : goal.look-requires-clause-seen
+look-requires-clause-seen g c =
+    subst (λ (session : Session). IfOk c.choose_sheet-chosen.result (IsViewOf (length session.document.book.worksheets))) c.self.view_is
+    (sheet_seen c.choose_sheet-chosen.result c.args.sheet (document_in c.self.inside.book) c.self.invariant c.choose_sheet-chosen.ensures.chosen)
 
 pub returns-clause-seen : goal.returns-clause-seen
 returns-clause-seen g c =

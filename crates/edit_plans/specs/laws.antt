@@ -34,3 +34,4 @@ pub mod FilledContents
 pub mod FillRules
 pub mod FillLaws
 pub mod SeenLaws
+pub mod Refusals

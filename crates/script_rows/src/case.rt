@@ -1,3 +1,4 @@
+use script_dump::push_line;
 use std::alloc::{AllocError, Global};
 
 /// What a run writes last where no `sync` came: the second copy, which has had nothing.
@@ -8,6 +9,8 @@ const NEW_COPY: &str = "copy\nbook en UTC workbook\nsheet 1 visible 1 0 0 - Shee
 pub(crate) struct Case<'a> {
     pub(crate) name: &'a str,
     pub(crate) script: Vec<u8>,
+    /// Calls, a line each. A case with calls has no script.
+    pub(crate) calls: Vec<u8>,
     /// Whether the last line of the script has no line feed.
     pub(crate) is_unended: bool,
     /// The numbers of the reads and of the writes that fail, from 0.
@@ -28,14 +31,8 @@ enum Setting {
     None,
     Reads,
     Writes,
-    Feeds,
+    Blanks,
     Status,
-}
-
-fn push_line(text: &mut Vec<u8>, line: &[u8]) -> Result<(), AllocError> {
-    text.extend_from_slice(line)?;
-    text.push(b'\n')?;
-    Ok(())
 }
 
 impl<'a> Case<'a> {
@@ -43,6 +40,7 @@ impl<'a> Case<'a> {
         Case {
             name,
             script: Vec::new(alloc),
+            calls: Vec::new(alloc),
             is_unended: false,
             reads: Vec::new(alloc),
             writes: Vec::new(alloc),
@@ -82,7 +80,7 @@ impl<'a> Case<'a> {
         match word {
             "reads" => Setting::Reads,
             "writes" => Setting::Writes,
-            "feeds" => Setting::Feeds,
+            "blanks" => Setting::Blanks,
             "status" => Setting::Status,
             "unended" => {
                 self.is_unended = true;
@@ -100,19 +98,20 @@ impl<'a> Case<'a> {
             Setting::None => self.is_misread = true,
             Setting::Reads => self.reads.push(number)?,
             Setting::Writes => self.writes.push(number)?,
-            Setting::Feeds => self.script.resize(number as usize, b'\n')?,
+            Setting::Blanks => self.script.resize(number as usize, b' ')?,
             Setting::Status => self.status = number,
         }
         Ok(())
     }
 
-    /// Takes a row that is no header: a line of the script, a line of the output, or a comment.
+    /// Takes a row that is no header: a line of the script, a call, a line of the output, or a comment.
     pub(crate) fn take(&mut self, row: &[u8]) -> Result<(), AllocError> {
         match row {
             [] | [b'#', ..] => Ok(()),
             [b'>'] => push_line(&mut self.script, b""),
             [b'>', b' ', line @ ..] => push_line(&mut self.script, line),
             [b'<', b' ', line @ ..] => self.want(line),
+            [b'!', b' ', line @ ..] => push_line(&mut self.calls, line),
             _ => {
                 self.is_misread = true;
                 Ok(())
@@ -130,7 +129,7 @@ impl<'a> Case<'a> {
         if self.is_unended {
             self.script.pop();
         }
-        if self.status == 0 && !self.has_copy {
+        if self.status == 0 && self.calls.is_empty() && !self.has_copy {
             self.wanted.extend_from_slice(NEW_COPY.as_bytes())?;
         }
         Ok(())

@@ -2,10 +2,17 @@
 //! (docs/CONTRIBUTING.md, "Cases").
 #![tactic(auto)]
 
+mod answers;
+mod bytes;
+mod calls;
 mod case;
 mod compare;
+mod edits;
+mod hex;
+mod questions;
 mod rows;
 mod verdict;
+mod words;
 
 use crate::rows::write_verdicts;
 use script_ends::{StdSink, StdSource, status_of};

@@ -1,3 +1,4 @@
+use crate::calls::run_calls;
 use crate::case::Case;
 use crate::compare::first_apart;
 use script_ends::{MemorySink, MemorySource, SureSink, SureSource, status_of};
@@ -46,10 +47,22 @@ fn run_failing(
     compared(wanted, wanted_status, output.bytes(), status_of(&outcome))
 }
 
+/// Makes calls.
+fn run_answered(alloc: Global, calls: &[u8], wanted: &[u8]) -> Verdict {
+    let Ok(calls) = str::from_utf8(calls) else {
+        return Verdict::Misread;
+    };
+    match run_calls(alloc, calls) {
+        Ok(answers) => compared(wanted, 0, &answers, 0),
+        Err(_) => Verdict::Ended(5),
+    }
+}
+
 fn verdict_of(alloc: Global, case: Case) -> Verdict {
     let Case {
         name: _,
         script,
+        calls,
         is_unended: _,
         reads,
         writes,
@@ -58,8 +71,10 @@ fn verdict_of(alloc: Global, case: Case) -> Verdict {
         has_copy: _,
         is_misread,
     } = case;
-    if is_misread {
+    if is_misread || !(calls.is_empty() || script.is_empty()) {
         Verdict::Misread
+    } else if !calls.is_empty() {
+        run_answered(alloc, &calls, &wanted)
     } else if reads.is_empty() && writes.is_empty() {
         run_surely(alloc, script, &wanted, status)
     } else {

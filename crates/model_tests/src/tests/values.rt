@@ -1,5 +1,4 @@
 // When values are computed, and what stands of them.
-use super::senders::{Sender, sent};
 use super::*;
 
 /// Counts how often it is asked, and wants memory where it is told to. The first cell of the first
@@ -25,6 +24,17 @@ impl<'a> Recalc for Counting<'a> {
         }
         Ok(values)
     }
+}
+
+fn link_and_send(model: &mut UserModel<ClearAll>) -> Result<Vec<u8>, EditError> {
+    model.set_cell_link(0, 9, 9, "x")?;
+    model.flush_send_queue()
+}
+
+/// The bytes of a link from another model, which is gone then.
+fn link_sent(alloc: Global) -> Result<Vec<u8>, EditError> {
+    let mut model = new_model(alloc)?;
+    link_and_send(&mut model)
 }
 
 /// What is tested of a model whose values are counted.
@@ -124,7 +134,7 @@ fn memory_is_short(
     alloc: Global,
     model: &mut UserModel<Counting<'_>>,
 ) -> Result<(), EditError> {
-    let bytes = sent(alloc, Sender::Link)?;
+    let bytes = link_sent(alloc)?;
     short_memory_changes_nothing(rt, model, &bytes)
 }
 

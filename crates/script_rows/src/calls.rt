@@ -1,0 +1,63 @@
+use crate::answers::push_error;
+use crate::bytes::answer_bytes;
+use crate::edits::answer_edit;
+use crate::questions::ask;
+use base_values::EditError;
+use script_dump::push_line;
+use std::alloc::Global;
+use user_model::{ClearAll, UserModel};
+
+type Model = UserModel<ClearAll>;
+
+/// Answers a question, or a call that asks of bytes.
+fn answer_question(
+    alloc: Global,
+    out: &mut Vec<u8>,
+    model: &Model,
+    call: &str,
+    text: &str,
+) -> Result<(), EditError> {
+    match call {
+        "read" | "cut" | "queue" => answer_bytes(alloc, out, call, text),
+        _ => match ask(alloc, model, call, text) {
+            Ok(Some(told)) => Ok(push_line(out, told.as_bytes())?),
+            Ok(None) => Ok(push_line(out, b"no call")?),
+            Err(error) => push_error(alloc, out, error),
+        },
+    }
+}
+
+fn answer(
+    alloc: Global,
+    out: &mut Vec<u8>,
+    model: &mut Model,
+    line: &str,
+) -> Result<(), EditError> {
+    let (call, text) = line.split_once(' ').unwrap_or((line, ""));
+    if answer_edit(alloc, out, model, call, text)? {
+        return Ok(());
+    }
+    answer_question(alloc, out, model, call, text)
+}
+
+fn answer_all(
+    alloc: Global,
+    out: &mut Vec<u8>,
+    model: &mut Model,
+    calls: &str,
+) -> Result<(), EditError> {
+    for line in calls.lines() {
+        answer(alloc, out, model, line)?;
+    }
+    Ok(())
+}
+
+/// What a new model answers to calls, a line each.
+pub(crate) fn run_calls(alloc: Global, calls: &str) -> Result<Vec<u8>, EditError> {
+    let mut out = Vec::new(alloc);
+    let mut model = UserModel::new_empty(alloc, "workbook", "en", "UTC", "en", ClearAll)?;
+    match answer_all(alloc, &mut out, &mut model, calls) {
+        Ok(()) => Ok(out),
+        Err(error) => Err(error),
+    }
+}

@@ -36,8 +36,8 @@ styled_cell entry style = record { content = content_of entry; style = style }
 
 -- what a place of a range gets: a cell with what the change makes of the style that the place shows
 abbrev pub place_styled : StyleRange → StyleAt → Sheet → Position → Option (Option Cell)
-place_styled range output sheet place =
-    if touches range sheet place then Some (Some (styled_cell (get sheet.cells place) (output place (shown_style sheet place)))) else None
+place_styled range restyle sheet place =
+    if touches range sheet place then Some (Some (styled_cell (get sheet.cells place) (restyle place (shown_style sheet place)))) else None
 
 -- ---- lines
 
@@ -55,27 +55,27 @@ stored_style a style = if a.of true false && is_default style then None else Som
 
 -- what the change makes of the style of a line; none where styles are taken away
 abbrev pub line_style_made : Along → StyleRange → StyleAt → ℤ → Option LineAttr → Option Style
-line_style_made a range output line entry = if range.clears then None else stored_style a (output (line_place a line) (line_style entry))
+line_style_made a range restyle line entry = if range.clears then None else stored_style a (restyle (line_place a line) (line_style entry))
 
 -- what a line has then; one that is left with nothing has no entry
 abbrev pub attr_styled : Along → StyleRange → StyleAt → ℤ → Option LineAttr → Option LineAttr
-attr_styled a range output line entry = stored_line (Some (with_style (line_style_made a range output line entry) (attr_of entry)))
+attr_styled a range restyle line entry = stored_line (Some (with_style (line_style_made a range restyle line entry) (attr_of entry)))
 
 abbrev pub line_styled : Along → StyleRange → StyleAt → FinMap int_cmp LineAttr → ℤ → Option (Option LineAttr)
-line_styled a range output lines line = if touches_line a range lines line then Some (attr_styled a range output line (get lines line)) else None
+line_styled a range restyle lines line = if touches_line a range lines line then Some (attr_styled a range restyle line (get lines line)) else None
 
 abbrev pub lines_styled : Along → StyleRange → StyleAt → FinMap int_cmp LineAttr → FinMap int_cmp (Option LineAttr)
-lines_styled a range output lines = planned_lines (line_styled a range output lines) (first_line a range.area) (unsigned_abs (line_count a range.area))
+lines_styled a range restyle lines = planned_lines (line_styled a range restyle lines) (first_line a range.area) (unsigned_abs (line_count a range.area))
 
 -- ---- the whole change
 
 -- the plan of a change of the styles of a range
 abbrev pub style_plan : StyleRange → StyleAt → Sheet → SheetPlan
-style_plan range output sheet = record {
-  cells = planned_places (place_styled range output sheet) range.area;
+style_plan range restyle sheet = record {
+  cells = planned_places (place_styled range restyle sheet) range.area;
   links = empty;
-  columns = lines_styled columns range output sheet.columns;
-  rows = lines_styled rows range output sheet.rows;
+  columns = lines_styled columns range restyle sheet.columns;
+  rows = lines_styled rows range restyle sheet.rows;
 }
 
 -- the change takes the style of a place, if the place is touched
@@ -99,4 +99,4 @@ all_accept range accepts sheet =
 
 -- the plan, or the refusal where one of the styles is not taken
 unfoldable pub planned_styles : StyleRange → StyleAt → Accepts → EditError → Sheet → Result SheetPlan EditError
-planned_styles range output accepts refusal sheet = if all_accept range accepts sheet then Ok (style_plan range output sheet) else Err refusal
+planned_styles range restyle accepts refusal sheet = if all_accept range accepts sheet then Ok (style_plan range restyle sheet) else Err refusal

@@ -14,6 +14,7 @@ use std::test::Fail;
 use user_model::{CellArrayStructure, ClearAll, Recalc, UserModel, View};
 
 mod copies;
+mod moves;
 mod rules;
 mod sheets;
 mod styles;
@@ -28,6 +29,7 @@ enum Case {
     ChosenView,
     LastId,
     PastedStyles,
+    HiddenLines,
 }
 
 fn run_case(
@@ -43,6 +45,7 @@ fn run_case(
         Case::ChosenView => sheets::views_are_chosen(rt, model),
         Case::LastId => sheets::no_id_is_left(rt, model),
         Case::PastedStyles => styles::tiles_are_laid(rt, alloc, model),
+        Case::HiddenLines => moves::moves_pass_hidden_lines(rt, model),
     }
 }
 

@@ -202,8 +202,8 @@ fn values_fill_cells(
     model: &mut UserModel<Counting<'_>>,
 ) -> Result<(), EditError> {
     for (row, structure) in [
-        (1, CellArrayStructure::DynamicAnchor(2, 2)),
-        (2, CellArrayStructure::DynamicChild(1, 1, 2, 2)),
+        (1, CellArrayStructure::DynamicAnchor(3, 2)),
+        (2, CellArrayStructure::DynamicChild(1, 1, 3, 2)),
         (3, CellArrayStructure::SingleCell),
     ] {
         assert_eq!(rt; model.get_cell_array_structure(0, row, 1), Ok(structure));
@@ -223,7 +223,7 @@ fn values_fill_cells(
 #[test]
 fn dynamic_formulas_fill_cells(rt: HostRuntime) -> Result<(), Fail> {
     let alloc = rt.alloc();
-    let calls = Cell::new(1);
+    let calls = Cell::new(2);
     let fails = Cell::new(false);
     let model = opened(alloc, dynamic_book(alloc)?, &calls, &fails)?;
     Ok(run_counted(&rt, alloc, Counted::DynamicFormula, model, &calls, &fails)?)

@@ -47,24 +47,24 @@ abbrev pub text_at : Locale → Language → Sheet → Position → List ℕ
 text_at locale language sheet place = entry_text (profile_at locale language place) (get sheet.cells place)
 
 -- whether a merge covers the place that a target repeats
-abbrev pub is_covered : Along → FillRange → Sheet → Position → ℕ → Bool
-is_covered a f sheet at n = is_covered sheet.merges (source_place a f at n)
+abbrev pub source_covered : Along → FillRange → Sheet → Position → ℕ → Bool
+source_covered a f sheet at n = is_covered sheet.merges (source_place a f at n)
 
 -- of each of the first so many targets of a cross line, whether it is covered
 abbrev pub covered_among : Along → FillRange → Sheet → Position → ℕ → List Bool
 covered_among a f sheet at zero = []
-covered_among a f sheet at (suc n) = covered_among a f sheet at n ++ is_covered a f sheet at n ∷ []
+covered_among a f sheet at (suc n) = covered_among a f sheet at n ++ source_covered a f sheet at n ∷ []
 
 -- how many of the first so many targets of a cross line are not covered
 abbrev pub open_count : Along → FillRange → Sheet → Position → ℕ → ℕ
 open_count a f sheet at zero = 0
-open_count a f sheet at (suc n) = open_count a f sheet at n + (if is_covered a f sheet at n then 0 else 1)
+open_count a f sheet at (suc n) = open_count a f sheet at n + (if source_covered a f sheet at n then 0 else 1)
 
 -- the texts that the first so many targets of a cross line repeat, but for covered ones
 abbrev pub texts : Along → FillRange → Locale → Language → Sheet → Position → ℕ → List (List ℕ)
 texts a f locale language sheet at zero = []
 texts a f locale language sheet at (suc n) =
-    texts a f locale language sheet at n ++ (if is_covered a f sheet at n then [] else text_at locale language sheet (source_place a f at n) ∷ [])
+    texts a f locale language sheet at n ++ (if source_covered a f sheet at n then [] else text_at locale language sheet (source_place a f at n) ∷ [])
 
 -- the progression that the texts of the source on a cross line have, in the case of its first cell there
 abbrev pub progression_on : Along → FillRange → Locale → Language → Sheet → Position → Option Progression
@@ -85,7 +85,7 @@ open_content locale language sheet (Some progression) number source place =
 -- the content of a target: none where it is covered
 abbrev pub content_with : Along → FillRange → Locale → Language → Sheet → Option Progression → Position → ℕ → Content
 content_with a f locale language sheet progression at n =
-    if is_covered a f sheet at n then Empty
+    if source_covered a f sheet at n then Empty
     else open_content locale language sheet progression (open_count a f sheet at n) (source_place a f at n) (target_place a f at n)
 
 -- the cell of a target, with the style that the place shows which it repeats

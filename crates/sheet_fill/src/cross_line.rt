@@ -14,7 +14,7 @@ ghost use Rattle.sheet_grid.specs.Sheet.{shown_style};
 ghost use Rattle.sheet_fill.specs.FillRanges.{IsRange, lines, source_place, target_place};
 ghost use Rattle.sheet_fill.specs.laws.FillWalks.{across_put, targets_put};
 ghost use Rattle.sheet_fill.specs.Plans.{CanonicalFill, cells_filled, links_filled};
-ghost use Rattle.sheet_fill.specs.Targets.{cell_with, content_with, covered_among, is_covered, open_content, open_count, place_filled, place_linked, progression_on, text_at, texts};
+ghost use Rattle.sheet_fill.specs.Targets.{cell_with, content_with, covered_among, source_covered, open_content, open_count, place_filled, place_linked, progression_on, text_at, texts};
 
 use crate::content::{continued, entry_text, filled_entry};
 use crate::range::{FillRange, lines, source_place, target_place};
@@ -54,10 +54,10 @@ fn text_at(fill: &Fill<'_>, place: Position) -> Result<String, EditError>
 }
 
 /// Whether a merge covers the place that a target repeats.
-fn is_covered<A: Axis>(fill: &Fill<'_>, at: Position, index: u32) -> bool
+fn source_covered<A: Axis>(fill: &Fill<'_>, at: Position, index: u32) -> bool
     requires range { IsRange fill.now.range }
     requires place { IsPlace at }
-    ensures { result ≡ is_covered A.along fill.now.range fill.now.sheet.now at index }
+    ensures { result ≡ source_covered A.along fill.now.range fill.now.sheet.now at index }
 {
     let place = source_place::<A>(fill.range, at, index);
     fill.sheet.is_covered_cell(place.row, place.column)
@@ -72,17 +72,17 @@ fn covered_places<A: Axis>(fill: &Fill<'_>, at: Position) -> Result<Vec<bool>, E
 {
     let mut hidden = Vec::new(fill.alloc);
     for index in 0..lines::<A>(fill.range.source) {
-        hidden.push(is_covered::<A>(fill, at, index))?;
+        hidden.push(source_covered::<A>(fill, at, index))?;
     }
     Ok(hidden)
 }
 
 /// Whether a target repeats a covered place, as was found of the source.
 #[tactic(auto, using(crate::proofs::CoveredPlaces::hidden_len, crate::proofs::CoveredPlaces::hidden_again))]
-fn repeats_hidden<A: Axis>(fill: &Fill<'_>, at: Position, hidden: &[bool], index: u32) -> bool
+fn repeats_covered<A: Axis>(fill: &Fill<'_>, at: Position, hidden: &[bool], index: u32) -> bool
     requires range { IsRange fill.now.range }
     requires hidden { hidden.now ≡ covered_among A.along fill.now.range fill.now.sheet.now at (lines A.along fill.now.range.source) }
-    ensures { result ≡ is_covered A.along fill.now.range fill.now.sheet.now at index }
+    ensures { result ≡ source_covered A.along fill.now.range fill.now.sheet.now at index }
 {
     let turn = index % lines::<A>(fill.range.source);
     hidden[turn as usize]
@@ -99,11 +99,11 @@ fn push_text<A: Axis>(
     requires place { IsPlace at }
     ensures texts { OnOk result (map string_bytes texts.new.items ≡
         map string_bytes texts.old.items ++
-        (if is_covered A.along fill.now.range fill.now.sheet.now at index then [] else text_at fill.now.locale fill.now.language
+        (if source_covered A.along fill.now.range fill.now.sheet.now at index then [] else text_at fill.now.locale fill.now.language
         fill.now.sheet.now (source_place A.along fill.now.range at index) ∷ [])) }
     ensures only { IsOkUnless result NoMemory }
 {
-    if is_covered::<A>(fill, at, index) {
+    if source_covered::<A>(fill, at, index) {
         return Ok(());
     }
     let text = text_at(fill, source_place::<A>(fill.range, at, index))?;
@@ -179,7 +179,7 @@ fn content_with<A: Axis>(
     requires range { IsRange fill.now.range }
     requires place { IsPlace at }
     requires index { index < lines A.along fill.now.range.target }
-    requires hidden { hidden ≡ is_covered A.along fill.now.range fill.now.sheet.now at index }
+    requires hidden { hidden ≡ source_covered A.along fill.now.range fill.now.sheet.now at index }
     requires number { number ≡ open_count A.along fill.now.range fill.now.sheet.now at index }
     requires few { number ≤ index }
     ensures content { IfOk result
@@ -228,7 +228,7 @@ fn cell_with<A: Axis>(
     requires range { IsRange fill.now.range }
     requires place { IsPlace at }
     requires index { index < lines A.along fill.now.range.target }
-    requires hidden { hidden ≡ is_covered A.along fill.now.range fill.now.sheet.now at index }
+    requires hidden { hidden ≡ source_covered A.along fill.now.range fill.now.sheet.now at index }
     requires number { number ≡ open_count A.along fill.now.range fill.now.sheet.now at index }
     requires few { number ≤ index }
     ensures cell { IfOk result (λ cell. cell ≡ cell_with A.along fill.now.range fill.now.locale fill.now.language fill.now.sheet.now progression.now at index) }
@@ -305,7 +305,7 @@ fn put_targets<A: Axis>(
 {
     let mut number = 0;
     for index in 0..lines::<A>(fill.range.target) {
-        let is_covered = repeats_hidden::<A>(fill, at, hidden, index);
+        let is_covered = repeats_covered::<A>(fill, at, hidden, index);
         let cell = cell_with::<A>(fill, progression, at, index, is_covered, number)?;
         put_target::<A>(fill, at, index, cell, cells, links)?;
         number = counted(is_covered, number);

@@ -41,7 +41,7 @@ use Rattle.sheet_rules.specs.laws.WellFormedLaws.{cells_fit_from_trees, have_tre
 use Rattle.sheet_fill.specs.declared.FillRange.{FillRange}
 use Rattle.sheet_fill.specs.declared.FillPlan.{FillPlan}
 use Rattle.sheet_fill.specs.FillRanges.{source_place}
-use Rattle.sheet_fill.specs.Targets.{cell_at, is_covered, link_at, steps}
+use Rattle.sheet_fill.specs.Targets.{cell_at, source_covered, link_at, steps}
 use Rattle.sheet_fill.specs.Tiles.{cuts_some, cuts_tile, is_cut, is_repeated, offset, repetitions, tile, tile_in, tiles}
 use Rattle.sheet_fill.specs.Plans.{plan_of}
 use Rattle.sheet_fill.specs.laws.FillWalkLaws.{get-filled, get-linked}
@@ -544,7 +544,7 @@ module _ (a : Along) (is : IsAxis a) (f : FillRange) (at : IsBeside a f) (sheet 
           (λ t s. uncovered_out t q (λ held. apart_values (holds f.target q) (held_wider t f.target q (tile_within Any t s) held) out))
           output (made_are Any (no_more sheet.merges))))
       go (Filled held same) =
-          let shown : is_covered a f sheet q (steps a f q) ≡ false =
+          let shown : source_covered a f sheet q (steps a f q) ≡ false =
           content_shown a f sheet locale language q (ap (λ (d : Cell). is_empty d.content) same ∙ filled) in
           let open_there = none_listed (λ m. covers m (repeated q)) sheet.merges (covered_by_one (repeated q) sheet.merges old_merges.apart ∙ shown) in
           none_pass (λ m. covers m q) (kept ++ output) (all_joined (λ m. covers m q ≡ false) kept output

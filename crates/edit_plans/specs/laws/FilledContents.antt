@@ -39,7 +39,7 @@ use Rattle.sheet_rules.specs.laws.EntryLaws.{both}
 use Rattle.sheet_rules.specs.laws.WellFormedLaws.{cells_fit_from_trees}
 use Rattle.sheet_fill.specs.declared.FillRange.{FillRange}
 use Rattle.sheet_fill.specs.FillRanges.{source_place, target_place}
-use Rattle.sheet_fill.specs.Targets.{cell_at, filled, filled_entry, fitting, is_covered, open_content, open_count, profile_at, progression_on, steps}
+use Rattle.sheet_fill.specs.Targets.{cell_at, filled, filled_entry, fitting, source_covered, open_content, open_count, profile_at, progression_on, steps}
 use Rattle.sheet_fill.specs.laws.FillWalkLaws.{own_target}
 use Rattle.sheet_fill.specs.laws.RebasedTrees.{numbers_rebased}
 
@@ -147,17 +147,17 @@ module _ (a : Along) (f : FillRange) (sheet : Sheet) (locale : Locale) (language
 
   -- it is no array
   pub content_no_array : array_at q (cell_at a f locale language sheet q).content ≡ None
-  content_no_array = elim (is_covered a f sheet q (steps a f q)) as (λ b. array_at q (if b then Empty else shown_content) ≡ None) [
+  content_no_array = elim (source_covered a f sheet q (steps a f q)) as (λ b. array_at q (if b then Empty else shown_content) ≡ None) [
     | true ↦ refl
     | false ↦ open_plain locale language sheet q (progression_on a f locale language sheet q) (open_count a f sheet q (steps a f q))
         (source_place a f q (steps a f q)) (target_place a f q (steps a f q))
   ]
 
   -- and there is one only where the place that is repeated is not covered
-  pub content_shown : is_empty (cell_at a f locale language sheet q).content ≡ false → is_covered a f sheet q (steps a f q) ≡ false
-  content_shown filled = go (is_covered a f sheet q (steps a f q)) refl filled
+  pub content_shown : is_empty (cell_at a f locale language sheet q).content ≡ false → source_covered a f sheet q (steps a f q) ≡ false
+  content_shown filled = go (source_covered a f sheet q (steps a f q)) refl filled
     where
-      go : (b : Bool) → is_covered a f sheet q (steps a f q) ≡ b → is_empty (if b then Empty else shown_content) ≡ false → is_covered a f sheet q (steps a f q) ≡ false
+      go : (b : Bool) → source_covered a f sheet q (steps a f q) ≡ b → is_empty (if b then Empty else shown_content) ≡ false → source_covered a f sheet q (steps a f q) ≡ false
       go true hidden is = absurd (let never : true ≡ false = is in cc)
       go false shown is = shown
 
@@ -165,7 +165,7 @@ module _ (a : Along) (f : FillRange) (sheet : Sheet) (locale : Locale) (language
 pub content_fits : (a : Along) → IsAxis a → (f : FillRange) (sheet : Sheet) → have_trees sheet ≡ true → (locale : Locale) (language : Language) (q : Position)
     → holds f.target q ≡ true → fits_at q (cell_at a f locale language sheet q).content ≡ true
 content_fits a is f sheet trees locale language q held =
-    elim (is_covered a f sheet q (steps a f q)) as (λ b. fits_at q (if b then Empty else shown_content a f sheet locale language q) ≡ true) [
+    elim (source_covered a f sheet q (steps a f q)) as (λ b. fits_at q (if b then Empty else shown_content a f sheet locale language q) ≡ true) [
       | true ↦ refl
       | false ↦ subst (λ p. fits_at p (shown_content a f sheet locale language q) ≡ true) (own_target a is f q held)
           (open_fits locale language sheet trees (progression_on a f locale language sheet q) (open_count a f sheet q (steps a f q))

@@ -16,13 +16,13 @@ use Rattle.sheet_grid.specs.Merges.{is_covered}
 use Rattle.sheet_grid.specs.Sheet.{Sheet, shown_style}
 use Rattle.sheet_fill.specs.declared.range.FillRange.{FillRange}
 use Rattle.sheet_fill.specs.FillRanges.{counted_line, lines, source_line, source_place, target_line, target_place}
-use Rattle.sheet_fill.specs.Targets.{cell_at, cell_with, content_with, is_covered, link_at, open_content, open_count, place_filled, place_linked, progression_on, steps, text_at, texts}
+use Rattle.sheet_fill.specs.Targets.{cell_at, cell_with, content_with, source_covered, link_at, open_content, open_count, place_filled, place_linked, progression_on, steps, text_at, texts}
 use Rattle.sheet_fill.specs.laws.LineCounts.{line_stands}
 
 -- ---- one cross line, named by another of its places
 
 module _ (a : Along) (is : IsAxis a) (f : FillRange) (sheet : Sheet) (at : Position) (line : ℤ) where
-  pub hidden_same : (n : ℕ) → is_covered a f sheet (a.with_line at line) n ≡ is_covered a f sheet at n
+  pub hidden_same : (n : ℕ) → source_covered a f sheet (a.with_line at line) n ≡ source_covered a f sheet at n
   hidden_same n = ap (is_covered sheet.merges) (is.put_twice at line (source_line a f n))
 
   open_same : (n : ℕ) → open_count a f sheet (a.with_line at line) n ≡ open_count a f sheet at n

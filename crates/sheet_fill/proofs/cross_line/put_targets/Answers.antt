@@ -21,8 +21,8 @@ loop-index-preserved g c =
     record {
       cells = c.in_ok-put_target.ensures.cells ∙ (λ i. put_one output (c.loop-index.invariant.cells i) here) ∙ sym (ap (targets_put output a fill.range c.args.cells.now c.args.at) more);
       links = c.in_ok-put_target.ensures.links ∙ (λ i. put_one linked (c.loop-index.invariant.links i) here) ∙ sym (ap (targets_put linked a fill.range c.args.links.now c.args.at) more);
-      counted = c.counted-number.ensures ∙ (λ i. c.loop-index.invariant.counted i + (if c.repeats_hidden-is_covered.ensures i then 0 else 1))
+      counted = c.counted-number.ensures ∙ (λ i. c.loop-index.invariant.counted i + (if c.repeats_covered-is_covered.ensures i then 0 else 1))
           ∙ sym (ap (open_count a fill.range fill.sheet.now c.args.at) more);
-      few = few_more c.repeats_hidden-is_covered.result c.loop-index.number c.loop-index.index c.counted-number.result c.counted-number.ensures c.loop-index.invariant.few;
+      few = few_more c.repeats_covered-is_covered.result c.loop-index.number c.loop-index.index c.counted-number.result c.counted-number.ensures c.loop-index.invariant.few;
       canonical = c.in_ok-put_target.ensures.canonical;
     }

@@ -1,7 +1,7 @@
 use Rattle.std.proofs.Common.{ap, ◌∙◌}
 use Rattle.sheet_grid.specs.Merges.{is_covered}
 use Rattle.sheet_fill.proofs.NamedPlaces.{same_numbers}
-use Rattle.sheet_fill.proofs.cross_line.is_covered.Goals as goal
+use Rattle.sheet_fill.proofs.cross_line.source_covered.Goals as goal
 
 pub returns : goal.returns
 returns g c =

@@ -71,7 +71,7 @@ fn array_area(sheet: &Worksheet, area: MergedCell) -> Result<MergedCell, EditErr
 /// The record of an array that may fill a rectangle.
 fn array_list(
     alloc: Global,
-    plain: &DefaultStyle,
+    default: &DefaultStyle,
     sheet: &Worksheet,
     area: MergedCell,
     tree: Shared<Node>,
@@ -87,7 +87,7 @@ fn array_list(
         width: area.width,
         height: area.height,
     };
-    let first = cell_change(alloc, plain, sheet, area.anchor_place(), content)?;
+    let first = cell_change(alloc, default, sheet, area.anchor_place(), content)?;
     let mut diffs = Items::empty(alloc);
     push_diff(&mut diffs, first)?;
     push_blank_diffs(alloc, sheet, area, &mut diffs)?;
@@ -106,7 +106,7 @@ fn array_list(
 /// and the record takes some.
 pub fn plan_array(
     alloc: Global,
-    plain: &DefaultStyle,
+    default: &DefaultStyle,
     workbook: &Workbook,
     sheet: u32,
     area: MergedCell,
@@ -119,5 +119,5 @@ pub fn plan_array(
 {
     let found = workbook.worksheet(sheet)?;
     let free = array_area(found, area)?;
-    array_list(alloc, plain, found, free, tree)
+    array_list(alloc, default, found, free, tree)
 }

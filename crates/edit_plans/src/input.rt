@@ -83,7 +83,7 @@ fn entered(
 /// The diff of the cell at a place that gets a content, or none where it stays.
 pub(crate) fn cell_change(
     alloc: Global,
-    plain: &DefaultStyle,
+    default: &DefaultStyle,
     sheet: &Worksheet,
     place: Position,
     content: Content,
@@ -95,7 +95,7 @@ pub(crate) fn cell_change(
     ensures only { IsOkUnless result NoMemory }
 {
     let old = sheet.shared_cell(place.row, place.column)?;
-    let style = sheet.shown_style(place.row, place.column, plain)?;
+    let style = sheet.shown_style(place.row, place.column, default)?;
     let new = entered(alloc, &old, content, style)?;
     Ok(cell_diff(sheet.get_sheet_id(), place, old, new))
 }
@@ -120,7 +120,7 @@ fn link_left(
 
 /// The diff of the row of a place that gets a text of so many line feeds, or none where the row stays.
 fn height_change(
-    plain: &DefaultStyle,
+    default: &DefaultStyle,
     sheet: &Worksheet,
     place: Position,
     feeds: u64,
@@ -130,7 +130,7 @@ fn height_change(
     ensures canonical { IfOk result (λ diff. IfSome diff IsCanonicalDiff) }
     ensures only { IsOkUnless result NoMemory }
 {
-    let style = sheet.shown_style(place.row, place.column, plain)?;
+    let style = sheet.shown_style(place.row, place.column, default)?;
     let needed = needed_height(feeds, style.get().font.sz);
     raised_diff(sheet, place.row, needed)
 }
@@ -138,7 +138,7 @@ fn height_change(
 /// The record of an input that goes to a place.
 fn input_list(
     alloc: Global,
-    plain: &DefaultStyle,
+    default: &DefaultStyle,
     sheet: &Worksheet,
     place: Position,
     content: Content,
@@ -151,8 +151,8 @@ fn input_list(
     ensures only { IsOkUnless result NoMemory }
 {
     let link = link_left(sheet, place, &content)?;
-    let cell = cell_change(alloc, plain, sheet, place, content)?;
-    let height = height_change(plain, sheet, place, feeds)?;
+    let cell = cell_change(alloc, default, sheet, place, content)?;
+    let height = height_change(default, sheet, place, feeds)?;
     list_of_three(alloc, cell, link, height)
 }
 
@@ -168,7 +168,7 @@ fn input_list(
 /// possible.
 pub fn plan_input(
     alloc: Global,
-    plain: &DefaultStyle,
+    default: &DefaultStyle,
     workbook: &Workbook,
     sheet: u32,
     row: i32,
@@ -183,5 +183,5 @@ pub fn plan_input(
 {
     let found = workbook.worksheet(sheet)?;
     let place = input_place(found, row, column)?;
-    input_list(alloc, plain, found, place, content, feeds)
+    input_list(alloc, default, found, place, content, feeds)
 }

@@ -186,7 +186,7 @@ pub fn pasted_area(styles: &[Vec<Style>], range: [i32; 4]) -> Option<MergedCell>
 /// The plan that lays styles over a rectangle as tiles. `NoMemory` alone is an error.
 fn tile_plan(
     alloc: Global,
-    plain: &DefaultStyle,
+    default: &DefaultStyle,
     found: &Worksheet,
     area: MergedCell,
     styles: &[Vec<Style>],
@@ -204,14 +204,14 @@ fn tile_plan(
     let rows = shared_rows(alloc, styles)?;
     let first = area.anchor_place();
     let tiles = StyleTiles { rows, first };
-    style_plan(alloc, found, plain, range, &tiles)
+    style_plan(alloc, found, default, range, &tiles)
 }
 
 /// Lays styles, which may be laid so, over the places of a rectangle of the sheet at an index as
 /// tiles: the record of the change. Its refusals are those of `plan_pasted` behind the first one.
 fn plan_tiles(
     alloc: Global,
-    plain: &DefaultStyle,
+    default: &DefaultStyle,
     workbook: &Workbook,
     sheet: u32,
     area: MergedCell,
@@ -222,7 +222,7 @@ fn plan_tiles(
 {
     let found = workbook.worksheet(sheet)?;
     let area = inside_area(area)?;
-    let plan = tile_plan(alloc, plain, found, area, styles)?;
+    let plan = tile_plan(alloc, default, found, area, styles)?;
     plan_list(alloc, found, &plan)
 }
 
@@ -235,7 +235,7 @@ fn plan_tiles(
 /// and the record takes some.
 pub fn plan_pasted(
     alloc: Global,
-    plain: &DefaultStyle,
+    default: &DefaultStyle,
     workbook: &Workbook,
     sheet: u32,
     area: MergedCell,
@@ -245,5 +245,5 @@ pub fn plan_pasted(
     ensures planned { Plans result workbook.now (styles_pasted sheet area (map (λ row. row.items) styles.now) workbook.now) }
 {
     test_tile(styles)?;
-    plan_tiles(alloc, plain, workbook, sheet, area, styles)
+    plan_tiles(alloc, default, workbook, sheet, area, styles)
 }

@@ -21,7 +21,7 @@ use style_edits::{test_update, update_style};
 /// A value that goes to one attribute of styles, which a path names.
 #[derive(Drop)]
 struct StyleUpdate<'a> {
-    plain: &'a DefaultStyle,
+    default: &'a DefaultStyle,
     path: &'a str,
     value: &'a str,
 }
@@ -53,7 +53,7 @@ impl<'a> StyleChange for StyleUpdate<'a> {
     }
 
     fn refusal(&self) -> EditError {
-        match test_update(self.plain.shared().get(), self.path, self.value) {
+        match test_update(self.default.shared().get(), self.path, self.value) {
             Ok(()) => EditError::StyleValue,
             Err(error) => error,
         }
@@ -91,7 +91,7 @@ pub(crate) fn inside_area(area: MergedCell) -> Result<MergedCell, EditError>
 /// takes some.
 pub fn plan_styles(
     alloc: Global,
-    plain: &DefaultStyle,
+    default: &DefaultStyle,
     workbook: &Workbook,
     sheet: u32,
     area: MergedCell,
@@ -109,8 +109,12 @@ pub fn plan_styles(
         kind,
         clears: false,
     };
-    let change = StyleUpdate { plain, path, value };
-    let plan = style_plan(alloc, found, plain, range, &change)?;
+    let change = StyleUpdate {
+        default,
+        path,
+        value,
+    };
+    let plan = style_plan(alloc, found, default, range, &change)?;
     plan_list(alloc, found, &plan)
 }
 
@@ -123,7 +127,7 @@ pub fn plan_styles(
 /// reaches outside the sheet. They take no memory, and the record takes some.
 pub fn plan_clear_formatting(
     alloc: Global,
-    plain: &DefaultStyle,
+    default: &DefaultStyle,
     workbook: &Workbook,
     sheet: u32,
     area: MergedCell,
@@ -139,6 +143,6 @@ pub fn plan_clear_formatting(
         kind,
         clears: true,
     };
-    let plan = style_plan(alloc, found, plain, range, plain)?;
+    let plan = style_plan(alloc, found, default, range, default)?;
     plan_list(alloc, found, &plan)
 }

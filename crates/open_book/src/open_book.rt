@@ -37,7 +37,7 @@ use std::alloc::Global;
 pub struct OpenBook {
     pub alloc: Global,
     /// The default style, shared by all cells that have it.
-    pub plain: DefaultStyle,
+    pub default_style: DefaultStyle,
     pub workbook: Workbook,
     pub history: History,
     /// How many lists of either stack, the oldest, are of steps that are no longer recorded.
@@ -273,7 +273,7 @@ impl OpenBook {
     {
         Ok(OpenBook {
             alloc,
-            plain: DefaultStyle::new(alloc)?,
+            default_style: DefaultStyle::new(alloc)?,
             workbook,
             history: History::new(alloc),
             stale_undo: 0,

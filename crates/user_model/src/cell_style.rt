@@ -22,10 +22,10 @@ fn no_border() -> Border
 }
 
 /// The border of the style that the place at a row and a column shows, and none outside the sheet.
-fn border_at(sheet: &Worksheet, plain: &DefaultStyle, row: i32, column: i32) -> Border
+fn border_at(sheet: &Worksheet, default: &DefaultStyle, row: i32, column: i32) -> Border
     ensures { result ≡ border_at sheet.now row column }
 {
-    match sheet.shown_style(row, column, plain) {
+    match sheet.shown_style(row, column, default) {
         Ok(style) => style.get().border,
         Err(_) => no_border(),
     }
@@ -46,17 +46,17 @@ fn heavier(theme: &Theme, own: Option<BorderItem>, facing: Option<BorderItem>) -
 fn shown_border(
     theme: &Theme,
     sheet: &Worksheet,
-    plain: &DefaultStyle,
+    default: &DefaultStyle,
     place: Position,
     own: Border,
 ) -> Border
     requires { IsPlace place }
     ensures { result ≡ shown_border theme.now sheet.now place own }
 {
-    let left = border_at(sheet, plain, place.row, place.column - 1).right;
-    let right = border_at(sheet, plain, place.row, place.column + 1).left;
-    let top = border_at(sheet, plain, place.row - 1, place.column).bottom;
-    let bottom = border_at(sheet, plain, place.row + 1, place.column).top;
+    let left = border_at(sheet, default, place.row, place.column - 1).right;
+    let right = border_at(sheet, default, place.row, place.column + 1).left;
+    let top = border_at(sheet, default, place.row - 1, place.column).bottom;
+    let bottom = border_at(sheet, default, place.row + 1, place.column).top;
     Border {
         left: heavier(theme, own.left, left),
         right: heavier(theme, own.right, right),
@@ -68,7 +68,7 @@ fn shown_border(
 /// The style that the cell at a row and a column of the sheet at an index shows beside its neighbours.
 pub(crate) fn cell_style_at(
     workbook: &Workbook,
-    plain: &DefaultStyle,
+    default: &DefaultStyle,
     sheet: u32,
     row: i32,
     column: i32,
@@ -79,6 +79,6 @@ pub(crate) fn cell_style_at(
     let place = place_of(row, column)?;
     let mut style = found.get_style(row, column)?;
     let theme = workbook.theme();
-    style.border = shown_border(&theme, found, plain, place, style.border);
+    style.border = shown_border(&theme, found, default, place, style.border);
     Ok(style)
 }

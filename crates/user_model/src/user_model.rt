@@ -370,7 +370,7 @@ impl<R: Recalc + Drop> UserModel<R> {
         let book = &self.book;
         let plan = plan_input(
             book.alloc,
-            &book.plain,
+            &book.default_style,
             &book.workbook,
             sheet,
             row,
@@ -439,7 +439,14 @@ impl<R: Recalc + Drop> UserModel<R> {
         ensures paused { self.new.paused ≡ self.old.paused }
     {
         let book = &self.book;
-        let plan = plan_array(book.alloc, &book.plain, &book.workbook, sheet, area, tree);
+        let plan = plan_array(
+            book.alloc,
+            &book.default_style,
+            &book.workbook,
+            sheet,
+            area,
+            tree,
+        );
         let selected = book.view.sheet as usize;
         self.make(plan, selected)
     }
@@ -683,7 +690,7 @@ impl<R: Recalc + Drop> UserModel<R> {
         ensures made_or_same { IsMade R.Fits self.new ⊎ (self.new ≡ self.old) }
         ensures paused { self.new.paused ≡ self.old.paused }
     {
-        let queue = decode_queue(self.book.alloc, self.book.plain.shared(), bytes)?;
+        let queue = decode_queue(self.book.alloc, self.book.default_style.shared(), bytes)?;
         self.book
             .receive_all(&mut self.results, &mut self.recalc, queue.as_slice())
     }

@@ -51,7 +51,7 @@ impl<R: Recalc + Drop> UserModel<R> {
         ensures { Returns result (cell_style_at sheet row column self.now.document.book) }
     {
         let book = &self.book;
-        cell_style_at(&book.workbook, &book.plain, sheet, row, column)
+        cell_style_at(&book.workbook, &book.default_style, sheet, row, column)
     }
 
     /// The greatest column below a column, in a row of the sheet at an index, whose cell has a content, or

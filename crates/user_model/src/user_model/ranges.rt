@@ -37,7 +37,7 @@ impl<R: Recalc + Drop> UserModel<R> {
         let book = &self.book;
         let plan = plan_styles(
             book.alloc,
-            &book.plain,
+            &book.default_style,
             &book.workbook,
             sheet,
             area,
@@ -69,7 +69,13 @@ impl<R: Recalc + Drop> UserModel<R> {
         ensures paused { self.new.paused ≡ self.old.paused }
     {
         let book = &self.book;
-        let plan = plan_clear_formatting(book.alloc, &book.plain, &book.workbook, sheet, area);
+        let plan = plan_clear_formatting(
+            book.alloc,
+            &book.default_style,
+            &book.workbook,
+            sheet,
+            area,
+        );
         let selected = book.view.sheet as usize;
         self.make(plan, selected)
     }
@@ -175,7 +181,7 @@ impl<R: Recalc + Drop> UserModel<R> {
         let area = pasted_rectangle(styles, view.range);
         let plan = plan_pasted(
             book.alloc,
-            &book.plain,
+            &book.default_style,
             &book.workbook,
             view.sheet,
             area,

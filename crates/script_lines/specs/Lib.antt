@@ -5,3 +5,4 @@ pub mod Colors
 pub mod Escapes
 pub mod Commands
 pub mod CommandFits
+pub mod Draws

@@ -8,6 +8,7 @@
 
 mod color;
 mod command;
+mod draws;
 mod escape;
 mod number;
 mod parse;
@@ -19,6 +20,7 @@ pub use command::{
     NamedMove, NamedName, NamedPath, NamedRule, NamedSheetMove, NamedSize, NamedSpan, NamedSwap,
     NamedUpdate,
 };
+pub use draws::drawn_command;
 pub use escape::{escapes_read_back, push_escaped};
 pub use parse::read_command;
 pub use parts::{split_first, without_return};

@@ -18,13 +18,17 @@ use Rattle.base_tables.specs.laws.ColumnLaws.{value_bounds}
 use Rattle.script_lines.specs.References.{read_column, read_row, letters_of, digits_of, reference_of, first_between, count_between, area_between, area_of_parts, area_of}
 use Rattle.script_lines.proofs.ReferenceBounds.{read_row-lt}
 use Rattle.script_lines.proofs.Letters.{all_letters}
-use Rattle.script_lines.specs.Colors.{named_color, digit_value, pair_value, color_of_pairs, color_of_digits, digit_color, color_of, parts_of_pairs, parts_of_digits, parts_of}
+use Rattle.script_lines.specs.Colors.{color_of, parts_in, parts_of}
+use Rattle.style_edits.specs.Colors.{color_written, digit_color, color_of_digits, color_of_pairs, pair_value, hex_value}
+use Rattle.std.specs.Char.{is_digit, digit_value}
 use Rattle.base_tables.specs.Tables.{entry_named}
 use Rattle.base_styles.specs.Colors.{theme_color_name, all_theme_colors}
-use Rattle.base_styles.specs.declared.Color.TheVariants.{None as NoColor, Theme}
+use Rattle.base_styles.specs.declared.Color.{Color}
+use Rattle.base_styles.specs.declared.RgbColor.{RgbColor}
+use Rattle.base_styles.specs.declared.Color.TheVariants.{None as NoColor, Rgb, Theme}
 use Rattle.script_lines.specs.Escapes.{unescaped}
 use Rattle.script_lines.proofs.EscapeLaws.{unescaped-IsUtf8}
-use Rattle.script_lines.specs.Commands.{Reader, word, sheet_word, cell_words, area_words, lines_words, move_words, sheet_move_words, rule_words, swap_words, color_words, grid_words, bit_of, scope_of, name_of, name_words, path_words, update_words, ended, with_text, alone, exactly, and_text, Table, by_table, cell_commands, cell_command, line_commands, line_command, sheet_commands, sheet_command, book_commands, book_command, from_words, command_of, count_words, span_of, size_of, only_text, theme_words, fill_words}
+use Rattle.script_lines.specs.Commands.{Reader, word, sheet_word, cell_words, area_words, lines_words, move_words, sheet_move_words, rule_words, swap_words, color_words, grid_words, bit_of, scope_of, name_of, name_words, update_words, path_words, fill_words, count_words, two_parts, theme_words, ended, with_text, Table, by_table, exactly, Readers, by_reader, alone, only, only_text, and_text, cell_commands, cell_command, area_commands, area_command, fill_commands, fill_command, lines_commands, lines_command, move_commands, move_command, count_commands, count_command, sheet_commands, sheet_command, single_commands, single_command, text_commands, text_command, word_commands, word_command, place_command, line_command, from_words, command_of}
 use Rattle.script_lines.specs.declared.reference.Reference.{Reference}
 use Rattle.script_lines.specs.declared.command.Command.{Command}
 use Rattle.script_lines.specs.declared.command.Command.TheVariants.{Set, Get, Array, Link, Unlink, Merge, Unmerge, InsertRows, InsertColumns, DeleteRows, DeleteColumns, MoveRows, MoveColumns, NewSheet, DuplicateSheet, DeleteSheet, MoveSheet, RenameSheet, HideSheet, UnhideSheet, SheetColor, GridLines, Name, NameUpdate, NameDelete, Undo, Redo, Sync, Show, Width, Height, HideRows, ShowRows, HideColumns, ShowColumns, FreezeRows, FreezeColumns, Style, Clear, ClearContents, ClearFormatting, Title, ThemeColors, Locale, Zone, Language, FillRows, FillColumns, Rule, RuleDelete, RuleSwap}
@@ -168,14 +172,18 @@ any_value : {A : Type 0} (o : Option A) → IfSome o (λ value. Unit {0})
 any_value None = tt
 any_value (Some value) = tt
 
-digit_fits : (b : ℕ) → IfSome (digit_value b) (λ v. v < 16)
-digit_fits b = grind (arith, nat_tests)
+digit_fits : (b : ℕ) → IfSome (hex_value b) (λ v. v < 16)
+digit_fits b = go (is_digit b 16) refl
+  where
+    go : (t : Bool) → is_digit b 16 ≡ t → IfSome (cond t (Some (digit_value b)) None) (λ v. v < 16)
+    go true e = grind (arith, nat_tests)
+    go false e = tt
 
 pair_fits : (high low : ℕ) → IfSome (pair_value high low) (λ v. v < 2 ^ 8)
 unfolding pair_value
 pair_fits high low =
-    step (λ v. v < 16) (λ v. v < 2 ^ 8) (digit_value high) _ (digit_fits high)
-    (λ h p. mapped (λ v. v < 16) (λ v. v < 2 ^ 8) (digit_value low) (λ l. h * 16 + l) (digit_fits low) (λ l q. omega (arith, p, q)))
+    step (λ v. v < 16) (λ v. v < 2 ^ 8) (hex_value high) _ (digit_fits high)
+    (λ h p. mapped (λ v. v < 16) (λ v. v < 2 ^ 8) (hex_value low) (λ l. h * 16 + l) (digit_fits low) (λ l q. omega (arith, p, q)))
 
 pairs_fit : (red green blue : Option ℕ) → IfSome red (λ v. v < 2 ^ 8) → IfSome green (λ v. v < 2 ^ 8) → IfSome blue (λ v. v < 2 ^ 8) → IfSome (color_of_pairs red green blue) IsNamedColor
 unfolding color_of_pairs
@@ -193,35 +201,32 @@ digit_color_fits : (bytes : List ℕ) → IfSome (digit_color bytes) IsNamedColo
 digit_color_fits [] = tt
 digit_color_fits (sign ∷ digits) = either IsNamedColor (sign == 35) (color_of_digits digits) None (digits_fit digits) tt
 
-named_color_fits : (bytes : List ℕ) → IfSome (named_color bytes) IsNamedColor
-named_color_fits bytes =
-    either IsNamedColor (bytes_eq bytes (codes "-")) (Some NoColor) (option_map Theme (entry_named theme_color_name all_theme_colors bytes)) tt
-    (mapped (λ color. Unit {0}) IsNamedColor (entry_named theme_color_name all_theme_colors bytes) Theme (any_value (entry_named theme_color_name all_theme_colors bytes)) (λ color p. tt))
-
 either_fits : {A : Type 0} (P : A → Type 0) (x y : Option A) → IfSome x P → IfSome y P → IfSome (option_or x y) P
 either_fits P None y p q = q
 either_fits P (Some a) y p q = p
 
+theme_color_fits : (bytes : List ℕ) → IfSome (option_map Theme (entry_named theme_color_name all_theme_colors bytes)) IsNamedColor
+theme_color_fits bytes =
+    let named = entry_named theme_color_name all_theme_colors bytes in
+    mapped (λ color. Unit {0}) IsNamedColor named Theme (any_value named) (λ color p. tt)
+
+written_fits : (bytes : List ℕ) → IfSome (color_written bytes) IsNamedColor
+written_fits bytes =
+    either_fits IsNamedColor (option_map Theme (entry_named theme_color_name all_theme_colors bytes)) (digit_color bytes) (theme_color_fits bytes) (digit_color_fits bytes)
+
 color_fits : (bytes : List ℕ) → IfSome (color_of bytes) IsNamedColor
-color_fits bytes = either_fits IsNamedColor (named_color bytes) (digit_color bytes) (named_color_fits bytes) (digit_color_fits bytes)
+color_fits bytes = either IsNamedColor (bytes_eq bytes (codes "-")) (Some NoColor) (color_written bytes) tt (written_fits bytes)
 
 -- ---- parts of colours
 
-parts_pairs_fit : (red green blue : Option ℕ) → IfSome red (λ v. v < 2 ^ 8) → IfSome green (λ v. v < 2 ^ 8) → IfSome blue (λ v. v < 2 ^ 8)
-    → IfSome (parts_of_pairs red green blue) PartsFit
-unfolding parts_of_pairs
-parts_pairs_fit None green blue p q r = tt
-parts_pairs_fit (Some red) None blue p q r = tt
-parts_pairs_fit (Some red) (Some green) None p q r = tt
-parts_pairs_fit (Some red) (Some green) (Some blue) p q r = (p, q, r)
-
-parts_digits_fit : (digits : List ℕ) → IfSome (parts_of_digits digits) PartsFit
-parts_digits_fit (r ∷ s ∷ g ∷ h ∷ b ∷ c ∷ []) = parts_pairs_fit _ _ _ (pair_fits r s) (pair_fits g h) (pair_fits b c)
-parts_digits_fit _ = tt
+parts_in_fit : (color : Color) → IsNamedColor color → IfSome (parts_in color) PartsFit
+parts_in_fit (Rgb red green blue) fits = fits
+parts_in_fit _ fits = tt
 
 parts_fit : (bytes : List ℕ) → IfSome (parts_of bytes) PartsFit
-parts_fit [] = tt
-parts_fit (sign ∷ digits) = either PartsFit (sign == 35) (parts_of_digits digits) None (parts_digits_fit digits) tt
+parts_fit bytes =
+    either PartsFit (length bytes == 7) (option_and_then parts_in (color_written bytes)) None
+    (step IsNamedColor PartsFit (color_written bytes) parts_in (written_fits bytes) parts_in_fit) tt
 
 -- ---- texts
 
@@ -361,54 +366,42 @@ path_words_fit words t =
 parts_word_fits : Reads PartsFit (word parts_of)
 parts_word_fits words t = word_fits PartsFit parts_of parts_fit words t
 
+-- two whose parts are bytes
+abbrev TwoFit : RgbColor × RgbColor → Type 0
+TwoFit two = PartsFit two.0 × PartsFit two.1
+
+two_parts_fit : Reads TwoFit two_parts
+two_parts_fit words t =
+    step (Fit PartsFit) (Fit TwoFit) (word parts_of words) _ (parts_word_fits words t)
+    (λ one o. step (Fit PartsFit) (Fit TwoFit) (word parts_of one.1) _ (parts_word_fits one.1 o.1) (λ other p. ((o.0, p.0), p.1)))
+
 theme_words_fit : Reads ThemeFits theme_words
 theme_words_fit words t =
-    step (Fit PartsFit) (Fit ThemeFits) (word parts_of words) _ (parts_word_fits words t)
-    (λ light1 light1_fits.
-    step (Fit PartsFit) (Fit ThemeFits) (word parts_of light1.1) _ (parts_word_fits light1.1 light1_fits.1)
-    (λ dark1 dark1_fits.
-    step (Fit PartsFit) (Fit ThemeFits) (word parts_of dark1.1) _ (parts_word_fits dark1.1 dark1_fits.1)
-    (λ light2 light2_fits.
-    step (Fit PartsFit) (Fit ThemeFits) (word parts_of light2.1) _ (parts_word_fits light2.1 light2_fits.1)
-    (λ dark2 dark2_fits.
-    step (Fit PartsFit) (Fit ThemeFits) (word parts_of dark2.1) _ (parts_word_fits dark2.1 dark2_fits.1)
-    (λ accent1 accent1_fits.
-    step (Fit PartsFit) (Fit ThemeFits) (word parts_of accent1.1) _ (parts_word_fits accent1.1 accent1_fits.1)
-    (λ accent2 accent2_fits.
-    step (Fit PartsFit) (Fit ThemeFits) (word parts_of accent2.1) _ (parts_word_fits accent2.1 accent2_fits.1)
-    (λ accent3 accent3_fits.
-    step (Fit PartsFit) (Fit ThemeFits) (word parts_of accent3.1) _ (parts_word_fits accent3.1 accent3_fits.1)
-    (λ accent4 accent4_fits.
-    step (Fit PartsFit) (Fit ThemeFits) (word parts_of accent4.1) _ (parts_word_fits accent4.1 accent4_fits.1)
-    (λ accent5 accent5_fits.
-    step (Fit PartsFit) (Fit ThemeFits) (word parts_of accent5.1) _ (parts_word_fits accent5.1 accent5_fits.1)
-    (λ accent6 accent6_fits.
-    step (Fit PartsFit) (Fit ThemeFits) (word parts_of accent6.1) _ (parts_word_fits accent6.1 accent6_fits.1)
-    (λ hyperlink hyperlink_fits.
-    step (Fit PartsFit) (Fit ThemeFits) (word parts_of hyperlink.1) _ (parts_word_fits hyperlink.1 hyperlink_fits.1)
-    (λ followed_hyperlink followed_hyperlink_fits. (
+    step (Fit TwoFit) (Fit ThemeFits) (two_parts words) _ (two_parts_fit words t)
+    (λ first first_fits. step (Fit TwoFit) (Fit ThemeFits) (two_parts first.1) _ (two_parts_fit first.1 first_fits.1)
+    (λ second second_fits. step (Fit TwoFit) (Fit ThemeFits) (two_parts second.1) _ (two_parts_fit second.1 second_fits.1)
+    (λ third third_fits. step (Fit TwoFit) (Fit ThemeFits) (two_parts third.1) _ (two_parts_fit third.1 third_fits.1)
+    (λ fourth fourth_fits. step (Fit TwoFit) (Fit ThemeFits) (two_parts fourth.1) _ (two_parts_fit fourth.1 fourth_fits.1)
+    (λ fifth fifth_fits. step (Fit TwoFit) (Fit ThemeFits) (two_parts fifth.1) _ (two_parts_fit fifth.1 fifth_fits.1)
+    (λ sixth sixth_fits. (
       record {
-        light1 = light1_fits.0;
-        dark1 = dark1_fits.0;
-        light2 = light2_fits.0;
-        dark2 = dark2_fits.0;
-        accent1 = accent1_fits.0;
-        accent2 = accent2_fits.0;
-        accent3 = accent3_fits.0;
-        accent4 = accent4_fits.0;
-        accent5 = accent5_fits.0;
-        accent6 = accent6_fits.0;
-        hyperlink = hyperlink_fits.0;
-        followed_hyperlink = followed_hyperlink_fits.0;
+        light1 = first_fits.0.0;
+        dark1 = first_fits.0.1;
+        light2 = second_fits.0.0;
+        dark2 = second_fits.0.1;
+        accent1 = third_fits.0.0;
+        accent2 = third_fits.0.1;
+        accent3 = fourth_fits.0.0;
+        accent4 = fourth_fits.0.1;
+        accent5 = fifth_fits.0.0;
+        accent6 = fifth_fits.0.1;
+        hyperlink = sixth_fits.0.0;
+        followed_hyperlink = sixth_fits.0.1;
       },
-      followed_hyperlink_fits.1,
-    )))))))))))))
+      sixth_fits.1,
+    )))))))
 
 -- ---- commands
-
--- what the words behind a command are read as fits
-abbrev Readable : List ℕ × (List (List ℕ) → Option Command) → Type 0
-Readable entry = (words : List (List ℕ)) → IsUtf8 (text_of words) → IfSome (entry.1 words) CommandFits
 
 ended_fits : {A : Type 0} (P : A → Type 0) (found : A × List (List ℕ)) → Fit P found → IfSome (ended found) P
 ended_fits P (value, []) h = h.0
@@ -418,16 +411,89 @@ text_fits : {A : Type 0} (P : A → Type 0) (found : A × List (List ℕ)) → F
 text_fits P (value, words) h =
     mapped IsUtf8 (λ read. P read.0 × IsUtf8 read.1) (unescaped (text_of words)) (λ text. (value, text)) (unescaped-IsUtf8 (text_of words) h.1) (λ text t. (h.0, t))
 
-exactly_fits : {A : Type 0} (P : A → Type 0) (read : Reader A) (command : A → Command) → Reads P read → ((a : A) → P a → CommandFits (command a))
-    → (words : List (List ℕ)) → IsUtf8 (text_of words) → IfSome (exactly read command words) CommandFits
-exactly_fits P read command h k words t =
+-- each command of such a value fits
+abbrev FitsAll : {A : Type 0} → (A → Type 0) → List ℕ × (A → Command) → Type 0
+FitsAll P entry = (found : _) → P found → CommandFits (entry.1 found)
+
+by_table_fits : {A : Type 0} (P : A → Type 0) (table : Table A) → AllByRecursion (FitsAll P) table → (first : List ℕ) (found : A) → P found → IfSome (by_table table first found) CommandFits
+by_table_fits P table entries first found f =
+    mapped (FitsAll P) CommandFits (find (λ entry. bytes_eq entry.0 first) table) (λ entry. entry.1 found) (found_fits (FitsAll P) (λ entry. bytes_eq entry.0 first) table entries)
+    (λ entry h. h found f)
+
+exactly_fits : {A : Type 0} (P : A → Type 0) (read : Reader A) (command : List ℕ → A → Option Command) → Reads P read
+    → ((first : List ℕ) (found : A) → P found → IfSome (command first found) CommandFits)
+    → (first : List ℕ) (words : List (List ℕ)) → IsUtf8 (text_of words) → IfSome (exactly read command first words) CommandFits
+exactly_fits P read command h k first words t =
+    step P CommandFits (option_and_then ended (read words)) (command first) (step (Fit P) P (read words) ended (h words t) (ended_fits P)) (k first)
+
+cell_entries_fit : AllByRecursion (FitsAll CellFits) cell_commands
+cell_entries_fit = (λ found f. f) ▸ (λ found f. f) ▸ (λ found f. f) ▸ tt
+
+cell_command_fits : (first : List ℕ) (found : _) → CellFits found → IfSome (cell_command first found) CommandFits
+unfolding cell_command
+cell_command_fits first found f = by_table_fits CellFits cell_commands cell_entries_fit first found f
+
+area_entries_fit : AllByRecursion (FitsAll AreaFits) area_commands
+area_entries_fit = (λ found f. f) ▸ (λ found f. f) ▸ (λ found f. f) ▸ (λ found f. f) ▸ tt
+
+area_command_fits : (first : List ℕ) (found : _) → AreaFits found → IfSome (area_command first found) CommandFits
+unfolding area_command
+area_command_fits first found f = by_table_fits AreaFits area_commands area_entries_fit first found f
+
+fill_entries_fit : AllByRecursion (FitsAll FillFits) fill_commands
+fill_entries_fit = (λ found f. f) ▸ (λ found f. f) ▸ tt
+
+fill_command_fits : (first : List ℕ) (found : _) → FillFits found → IfSome (fill_command first found) CommandFits
+unfolding fill_command
+fill_command_fits first found f = by_table_fits FillFits fill_commands fill_entries_fit first found f
+
+lines_entries_fit : AllByRecursion (FitsAll LinesFit) lines_commands
+lines_entries_fit = (λ found f. f) ▸ (λ found f. f) ▸ (λ found f. f) ▸ (λ found f. f) ▸ (λ found f. f) ▸ (λ found f. f) ▸ (λ found f. f) ▸ (λ found f. f) ▸ tt
+
+lines_command_fits : (first : List ℕ) (found : _) → LinesFit found → IfSome (lines_command first found) CommandFits
+unfolding lines_command
+lines_command_fits first found f = by_table_fits LinesFit lines_commands lines_entries_fit first found f
+
+move_entries_fit : AllByRecursion (FitsAll MoveFits) move_commands
+move_entries_fit = (λ found f. f) ▸ (λ found f. f) ▸ (λ found f. f) ▸ (λ found f. f) ▸ tt
+
+move_command_fits : (first : List ℕ) (found : _) → MoveFits found → IfSome (move_command first found) CommandFits
+unfolding move_command
+move_command_fits first found f = by_table_fits MoveFits move_commands move_entries_fit first found f
+
+count_entries_fit : AllByRecursion (FitsAll CountFits) count_commands
+count_entries_fit = (λ found f. f) ▸ (λ found f. f) ▸ tt
+
+count_command_fits : (first : List ℕ) (found : _) → CountFits found → IfSome (count_command first found) CommandFits
+unfolding count_command
+count_command_fits first found f = by_table_fits CountFits count_commands count_entries_fit first found f
+
+sheet_entries_fit : AllByRecursion (FitsAll SheetFits) sheet_commands
+sheet_entries_fit = (λ found f. f) ▸ (λ found f. f) ▸ (λ found f. f) ▸ (λ found f. f) ▸ tt
+
+sheet_command_fits : (first : List ℕ) (found : _) → SheetFits found → IfSome (sheet_command first found) CommandFits
+unfolding sheet_command
+sheet_command_fits first found f = by_table_fits SheetFits sheet_commands sheet_entries_fit first found f
+
+-- what the words behind a command are read as fits
+abbrev Readable : List ℕ × (List (List ℕ) → Option Command) → Type 0
+Readable entry = (words : List (List ℕ)) → IsUtf8 (text_of words) → IfSome (entry.1 words) CommandFits
+
+by_reader_fits : (readers : Readers) → AllByRecursion Readable readers → (first : List ℕ) (words : List (List ℕ)) → IsUtf8 (text_of words) → IfSome (by_reader readers first words) CommandFits
+by_reader_fits readers entries first words t =
+    step Readable CommandFits (find (λ entry. bytes_eq entry.0 first) readers) (λ entry. entry.1 words) (found_fits Readable (λ entry. bytes_eq entry.0 first) readers entries)
+    (λ entry r. r words t)
+
+only_fits : {A : Type 0} (P : A → Type 0) (read : Reader A) (command : A → Command) → Reads P read → ((a : A) → P a → CommandFits (command a))
+    → (words : List (List ℕ)) → IsUtf8 (text_of words) → IfSome (only read command words) CommandFits
+only_fits P read command h k words t =
     mapped P CommandFits (option_and_then ended (read words)) command (step (Fit P) P (read words) ended (h words t) (ended_fits P)) k
 
-and_text_fits : {A : Type 0} (P : A → Type 0) (read : Reader A) (command : A → List ℕ → Option Command) → Reads P read
-    → ((a : A) (text : List ℕ) → P a → IsUtf8 text → IfSome (command a text) CommandFits)
+and_text_fits : {A : Type 0} (P : A → Type 0) (read : Reader A) (command : A → List ℕ → Command) → Reads P read
+    → ((a : A) (text : List ℕ) → P a → IsUtf8 text → CommandFits (command a text))
     → (words : List (List ℕ)) → IsUtf8 (text_of words) → IfSome (and_text read command words) CommandFits
 and_text_fits P read command h k words t =
-    step (λ found. P found.0 × IsUtf8 found.1) CommandFits (option_and_then with_text (read words)) (λ found. command found.0 found.1)
+    mapped (λ found. P found.0 × IsUtf8 found.1) CommandFits (option_and_then with_text (read words)) (λ found. command found.0 found.1)
     (step (Fit P) (λ found. P found.0 × IsUtf8 found.1) (read words) with_text (h words t) (text_fits P)) (λ found q. k found.0 found.1 q.0 q.1)
 
 only_text_fits : (command : List ℕ → Command) → ((text : List ℕ) → IsUtf8 text → CommandFits (command text))
@@ -438,101 +504,75 @@ alone_fits : (command : Command) → CommandFits command → (words : List (List
 alone_fits command h [] t = h
 alone_fits command h (next ∷ words) t = tt
 
-cell_entries_fit : AllByRecursion Readable cell_commands
-cell_entries_fit =
-    and_text_fits CellFits cell_words (λ cell text. Some (Set cell text)) cell_fits (λ cell text c t. (c, t))
-    ▸ exactly_fits CellFits cell_words Get cell_fits (λ cell c. c)
-    ▸ and_text_fits AreaFits area_words (λ area text. Some (Array area text)) area_words_fit (λ area text a t. (a, t))
-    ▸ and_text_fits CellFits cell_words (λ cell text. Some (Link cell text)) cell_fits (λ cell text c t. (c, t))
-    ▸ exactly_fits CellFits cell_words Unlink cell_fits (λ cell c. c)
-    ▸ exactly_fits AreaFits area_words Merge area_words_fit (λ area a. a)
-    ▸ exactly_fits CellFits cell_words Unmerge cell_fits (λ cell c. c)
-    ▸ and_text_fits PathFits path_words (λ named text. Some (Style named text)) path_words_fit (λ named text n t. (n, t))
-    ▸ exactly_fits AreaFits area_words Clear area_words_fit (λ area a. a)
-    ▸ exactly_fits AreaFits area_words ClearContents area_words_fit (λ area a. a)
-    ▸ exactly_fits AreaFits area_words ClearFormatting area_words_fit (λ area a. a)
-    ▸ exactly_fits FillFits fill_words FillRows fill_words_fit (λ named f. f)
-    ▸ exactly_fits FillFits fill_words FillColumns fill_words_fit (λ named f. f)
-    ▸ and_text_fits AreaFits area_words (λ area text. Some (Rule area text)) area_words_fit (λ area text a t. (a, t))
-    ▸ exactly_fits RuleFits rule_words RuleDelete rule_words_fit (λ named r. r)
-    ▸ exactly_fits SwapFits swap_words RuleSwap swap_words_fit (λ named s. s)
-    ▸ tt
-
-line_entries_fit : AllByRecursion Readable line_commands
-line_entries_fit =
-    exactly_fits LinesFit lines_words InsertRows lines_fit (λ lines l. l)
-    ▸ exactly_fits LinesFit lines_words InsertColumns lines_fit (λ lines l. l)
-    ▸ exactly_fits LinesFit lines_words DeleteRows lines_fit (λ lines l. l)
-    ▸ exactly_fits LinesFit lines_words DeleteColumns lines_fit (λ lines l. l)
-    ▸ exactly_fits MoveFits move_words MoveRows move_fits (λ move m. m)
-    ▸ exactly_fits MoveFits move_words MoveColumns move_fits (λ move m. m)
-    ▸ exactly_fits MoveFits move_words (λ move. Width (size_of move)) move_fits (λ move m. m)
-    ▸ exactly_fits MoveFits move_words (λ move. Height (size_of move)) move_fits (λ move m. m)
-    ▸ exactly_fits LinesFit lines_words (λ lines. HideRows (span_of lines)) lines_fit (λ lines l. l)
-    ▸ exactly_fits LinesFit lines_words (λ lines. ShowRows (span_of lines)) lines_fit (λ lines l. l)
-    ▸ exactly_fits LinesFit lines_words (λ lines. HideColumns (span_of lines)) lines_fit (λ lines l. l)
-    ▸ exactly_fits LinesFit lines_words (λ lines. ShowColumns (span_of lines)) lines_fit (λ lines l. l)
-    ▸ exactly_fits CountFits count_words FreezeRows count_fits (λ named c. c)
-    ▸ exactly_fits CountFits count_words FreezeColumns count_fits (λ named c. c)
-    ▸ tt
-
-sheet_entries_fit : AllByRecursion Readable sheet_commands
-sheet_entries_fit =
+single_entries_fit : AllByRecursion Readable single_commands
+single_entries_fit =
     alone_fits NewSheet tt
-    ▸ exactly_fits SheetFits sheet_word DuplicateSheet sheet_fits (λ sheet s. s)
-    ▸ exactly_fits SheetFits sheet_word DeleteSheet sheet_fits (λ sheet s. s)
-    ▸ exactly_fits SheetMoveFits sheet_move_words MoveSheet sheet_move_fits (λ move m. m)
-    ▸ and_text_fits SheetFits sheet_word (λ sheet text. Some (RenameSheet sheet text)) sheet_fits (λ sheet text s t. (s, t))
-    ▸ exactly_fits SheetFits sheet_word HideSheet sheet_fits (λ sheet s. s)
-    ▸ exactly_fits SheetFits sheet_word UnhideSheet sheet_fits (λ sheet s. s)
-    ▸ exactly_fits ColorFits color_words SheetColor color_words_fit (λ named c. c)
-    ▸ exactly_fits GridFits grid_words GridLines grid_fits (λ named g. g)
-    ▸ tt
-
-book_entries_fit : AllByRecursion Readable book_commands
-book_entries_fit =
-    and_text_fits NameFits name_words (λ name text. Some (Name name text)) name_words_fit (λ name text n t. (n, t))
-    ▸ and_text_fits UpdateFits update_words (λ update text. Some (NameUpdate update text)) update_words_fit (λ update text u t. (u, t))
-    ▸ exactly_fits NameFits name_words NameDelete name_words_fit (λ name n. n)
-    ▸ only_text_fits Title (λ text t. t)
-    ▸ exactly_fits ThemeFits theme_words ThemeColors theme_words_fit (λ theme p. p)
-    ▸ exactly_fits IsUtf8 (word name_of) Locale name_word_fits (λ name n. n)
-    ▸ exactly_fits IsUtf8 (word name_of) Zone name_word_fits (λ name n. n)
-    ▸ exactly_fits IsUtf8 (word name_of) Language name_word_fits (λ name n. n)
     ▸ alone_fits Undo tt
     ▸ alone_fits Redo tt
     ▸ alone_fits Sync tt
     ▸ alone_fits Show tt
+    ▸ only_fits SheetMoveFits sheet_move_words MoveSheet sheet_move_fits (λ move m. m)
+    ▸ only_fits RuleFits rule_words RuleDelete rule_words_fit (λ named r. r)
+    ▸ only_fits SwapFits swap_words RuleSwap swap_words_fit (λ named s. s)
+    ▸ only_fits ColorFits color_words SheetColor color_words_fit (λ named c. c)
+    ▸ only_fits GridFits grid_words GridLines grid_fits (λ named g. g)
+    ▸ only_fits ThemeFits theme_words ThemeColors theme_words_fit (λ theme p. p)
     ▸ tt
 
-by_table_fits : (table : Table) → AllByRecursion Readable table → (first : List ℕ) (words : List (List ℕ)) → IsUtf8 (text_of words) → IfSome (by_table table first words) CommandFits
-by_table_fits table entries first words t =
-    step Readable CommandFits (find (λ entry. bytes_eq entry.0 first) table) (λ entry. entry.1 words) (found_fits Readable (λ entry. bytes_eq entry.0 first) table entries)
-    (λ entry r. r words t)
+text_entries_fit : AllByRecursion Readable text_commands
+text_entries_fit =
+    and_text_fits CellFits cell_words Set cell_fits (λ cell text c t. (c, t))
+    ▸ and_text_fits CellFits cell_words Link cell_fits (λ cell text c t. (c, t))
+    ▸ and_text_fits AreaFits area_words Array area_words_fit (λ area text a t. (a, t))
+    ▸ and_text_fits AreaFits area_words Rule area_words_fit (λ area text a t. (a, t))
+    ▸ and_text_fits PathFits path_words Style path_words_fit (λ named text n t. (n, t))
+    ▸ and_text_fits SheetFits sheet_word RenameSheet sheet_fits (λ sheet text s t. (s, t))
+    ▸ and_text_fits NameFits name_words Name name_words_fit (λ name text n t. (n, t))
+    ▸ and_text_fits UpdateFits update_words NameUpdate update_words_fit (λ update text u t. (u, t))
+    ▸ only_text_fits Title (λ text t. t)
+    ▸ tt
 
-cell_command_fits : (first : List ℕ) (words : List (List ℕ)) → IsUtf8 (text_of words) → IfSome (cell_command first words) CommandFits
-unfolding cell_command
-cell_command_fits first words t = by_table_fits cell_commands cell_entries_fit first words t
+word_entries_fit : AllByRecursion Readable word_commands
+word_entries_fit =
+    only_fits NameFits name_words NameDelete name_words_fit (λ name n. n)
+    ▸ only_fits IsUtf8 (word name_of) Locale name_word_fits (λ name n. n)
+    ▸ only_fits IsUtf8 (word name_of) Zone name_word_fits (λ name n. n)
+    ▸ only_fits IsUtf8 (word name_of) Language name_word_fits (λ name n. n)
+    ▸ tt
+
+single_command_fits : (first : List ℕ) (words : List (List ℕ)) → IsUtf8 (text_of words) → IfSome (single_command first words) CommandFits
+unfolding single_command
+single_command_fits first words t = by_reader_fits single_commands single_entries_fit first words t
+
+text_command_fits : (first : List ℕ) (words : List (List ℕ)) → IsUtf8 (text_of words) → IfSome (text_command first words) CommandFits
+unfolding text_command
+text_command_fits first words t = by_reader_fits text_commands text_entries_fit first words t
+
+word_command_fits : (first : List ℕ) (words : List (List ℕ)) → IsUtf8 (text_of words) → IfSome (word_command first words) CommandFits
+unfolding word_command
+word_command_fits first words t = by_reader_fits word_commands word_entries_fit first words t
+
+place_command_fits : (first : List ℕ) (words : List (List ℕ)) → IsUtf8 (text_of words) → IfSome (place_command first words) CommandFits
+unfolding place_command
+place_command_fits first words t =
+    either_fits CommandFits (exactly cell_words cell_command first words) _ (exactly_fits CellFits cell_words cell_command cell_fits cell_command_fits first words t)
+    (either_fits CommandFits (exactly area_words area_command first words) _ (exactly_fits AreaFits area_words area_command area_words_fit area_command_fits first words t) (exactly_fits FillFits fill_words fill_command fill_words_fit fill_command_fits first words t))
 
 line_command_fits : (first : List ℕ) (words : List (List ℕ)) → IsUtf8 (text_of words) → IfSome (line_command first words) CommandFits
 unfolding line_command
-line_command_fits first words t = by_table_fits line_commands line_entries_fit first words t
-
-sheet_command_fits : (first : List ℕ) (words : List (List ℕ)) → IsUtf8 (text_of words) → IfSome (sheet_command first words) CommandFits
-unfolding sheet_command
-sheet_command_fits first words t = by_table_fits sheet_commands sheet_entries_fit first words t
-
-book_command_fits : (first : List ℕ) (words : List (List ℕ)) → IsUtf8 (text_of words) → IfSome (book_command first words) CommandFits
-unfolding book_command
-book_command_fits first words t = by_table_fits book_commands book_entries_fit first words t
+line_command_fits first words t =
+    either_fits CommandFits (exactly lines_words lines_command first words) _ (exactly_fits LinesFit lines_words lines_command lines_fit lines_command_fits first words t)
+    (either_fits CommandFits (exactly move_words move_command first words) _ (exactly_fits MoveFits move_words move_command move_fits move_command_fits first words t) (exactly_fits CountFits count_words count_command count_fits count_command_fits first words t))
 
 from_words_fit : (words : List (List ℕ)) → IsUtf8 (text_of words) → IfSome (from_words words) CommandFits
 from_words_fit [] h = tt
 from_words_fit (first ∷ words) h =
     let t = rest_text first words h in
-    either_fits CommandFits (cell_command first words) _ (cell_command_fits first words t)
+    either_fits CommandFits (text_command first words) _ (text_command_fits first words t)
+    (either_fits CommandFits (place_command first words) _ (place_command_fits first words t)
     (either_fits CommandFits (line_command first words) _ (line_command_fits first words t)
-    (either_fits CommandFits (sheet_command first words) (book_command first words) (sheet_command_fits first words t) (book_command_fits first words t)))
+    (either_fits CommandFits (exactly sheet_word sheet_command first words) _ (exactly_fits SheetFits sheet_word sheet_command sheet_fits sheet_command_fits first words t)
+    (either_fits CommandFits (single_command first words) (word_command first words) (single_command_fits first words t) (word_command_fits first words t)))))
 
 pub command_fits : (line : List ℕ) → IfSome (command_of line) CommandFits
 command_fits line = go (is_utf8 line) refl

@@ -1,7 +1,7 @@
 -- More words than a command has, words that begin none, and lines that are text.
 use Rattle.std.proofs.Common.{◌≡◌, ℕ, ◌==◌, Bool, true, false, cond, List, [], ◌∷◌, Option, Some, None, Result, Ok, Err, refl, sym, ap, subst, ◌∙◌}
 use Rattle.std.specs.Prelude.{IfOk, IfSome}
-use Rattle.std.specs.Option.{option_and_then}
+use Rattle.std.specs.Option.{option_and_then, option_map}
 use Rattle.script_lines.specs.CommandFits.{CommandFits}
 use Rattle.script_lines.proofs.Fitting.{command_fits}
 use Rattle.base_values.specs.declared.error.EditError.{EditError}
@@ -12,7 +12,7 @@ use Rattle.std.proofs.lemmas.Str.{IsUtf8-from_is_utf8, is_utf8-from_IsUtf8}
 use Rattle.script_lines.specs.Parts.{parts_at}
 use Rattle.script_lines.specs.References.{area_of_parts}
 use Rattle.script_lines.specs.declared.command.Command.{Command}
-use Rattle.script_lines.specs.Commands.{ended, Table, by_table, cell_commands, cell_command, line_commands, line_command, sheet_commands, sheet_command, book_commands, book_command, from_words, command_of}
+use Rattle.script_lines.specs.Commands.{ended, Table, by_table, Readers, by_reader, from_words, command_of}
 
 first_part : (P : List (List ℕ) → Type 0) → ((word : List ℕ) (words : List (List ℕ)) → P (word ∷ words)) → (separator : ℕ) (bytes : List ℕ) → P (parts_at separator bytes)
 first_part P h separator [] = h [] []
@@ -66,22 +66,8 @@ none_named name_of first (entry ∷ entries) h = go (none_named name_of first en
     go rest false e = rest
 
 -- a word that begins no command of a table
-none_by_table : (table : Table) (first : List ℕ) (words : List (List ℕ)) → AllByRecursion (λ entry. first ≡ entry.0 → ⊥) table → None ≡ by_table table first words
-none_by_table table first words h = sym (ap (option_and_then (λ entry. entry.1 words)) (none_named (λ entry. entry.0) first table h))
+pub none_by_table : {A : Type 0} (table : Table A) (first : List ℕ) (value : A) → AllByRecursion (λ entry. first ≡ entry.0 → ⊥) table → None ≡ by_table table first value
+none_by_table table first value h = sym (ap (option_map (λ entry. entry.1 value)) (none_named (λ entry. entry.0) first table h))
 
--- of each table
-pub no_cell_command : (first : List ℕ) (words : List (List ℕ)) → AllByRecursion (λ entry. first ≡ entry.0 → ⊥) cell_commands → None ≡ cell_command first words
-unfolding cell_command
-no_cell_command first words h = none_by_table cell_commands first words h
-
-pub no_line_command : (first : List ℕ) (words : List (List ℕ)) → AllByRecursion (λ entry. first ≡ entry.0 → ⊥) line_commands → None ≡ line_command first words
-unfolding line_command
-no_line_command first words h = none_by_table line_commands first words h
-
-pub no_sheet_command : (first : List ℕ) (words : List (List ℕ)) → AllByRecursion (λ entry. first ≡ entry.0 → ⊥) sheet_commands → None ≡ sheet_command first words
-unfolding sheet_command
-no_sheet_command first words h = none_by_table sheet_commands first words h
-
-pub no_book_command : (first : List ℕ) (words : List (List ℕ)) → AllByRecursion (λ entry. first ≡ entry.0 → ⊥) book_commands → None ≡ book_command first words
-unfolding book_command
-no_book_command first words h = none_by_table book_commands first words h
+pub none_by_reader : (readers : Readers) (first : List ℕ) (words : List (List ℕ)) → AllByRecursion (λ entry. first ≡ entry.0 → ⊥) readers → None ≡ by_reader readers first words
+none_by_reader readers first words h = sym (ap (option_and_then (λ entry. entry.1 words)) (none_named (λ entry. entry.0) first readers h))

@@ -8,6 +8,7 @@ use Rattle.std.specs.declared.option.Option.TheVariants.{Some, None}
 use Rattle.script_lines.specs.Parts.{parts_at, text_of}
 use Rattle.script_lines.specs.Number.{number_below, signed_number}
 use Rattle.script_lines.specs.References.{reference_of, area_of}
+use Rattle.base_styles.specs.declared.RgbColor.{RgbColor}
 use Rattle.base_styles.specs.declared.Theme.{Theme}
 use Rattle.script_lines.specs.Colors.{color_of, parts_of}
 use Rattle.script_lines.specs.Escapes.{unescaped}
@@ -171,37 +172,38 @@ path_words words = do
   path ← word name_of area.1
   Some (record { area = area.0; path = path.0 }, path.1)
 
+-- two `#RRGGBB`
+abbrev pub two_parts : Reader (RgbColor × RgbColor)
+two_parts words = do
+  one ← word parts_of words
+  other ← word parts_of one.1
+  Some ((one.0, other.0), other.1)
+
 -- twelve `#RRGGBB`
 abbrev pub theme_words : Reader Theme
 theme_words words = do
-  light1 ← word parts_of words
-  dark1 ← word parts_of light1.1
-  light2 ← word parts_of dark1.1
-  dark2 ← word parts_of light2.1
-  accent1 ← word parts_of dark2.1
-  accent2 ← word parts_of accent1.1
-  accent3 ← word parts_of accent2.1
-  accent4 ← word parts_of accent3.1
-  accent5 ← word parts_of accent4.1
-  accent6 ← word parts_of accent5.1
-  hyperlink ← word parts_of accent6.1
-  followed_hyperlink ← word parts_of hyperlink.1
+  first ← two_parts words
+  second ← two_parts first.1
+  third ← two_parts second.1
+  fourth ← two_parts third.1
+  fifth ← two_parts fourth.1
+  sixth ← two_parts fifth.1
   Some (
     record {
-      light1 = light1.0;
-      dark1 = dark1.0;
-      light2 = light2.0;
-      dark2 = dark2.0;
-      accent1 = accent1.0;
-      accent2 = accent2.0;
-      accent3 = accent3.0;
-      accent4 = accent4.0;
-      accent5 = accent5.0;
-      accent6 = accent6.0;
-      hyperlink = hyperlink.0;
-      followed_hyperlink = followed_hyperlink.0;
+      light1 = first.0.0;
+      dark1 = first.0.1;
+      light2 = second.0.0;
+      dark2 = second.0.1;
+      accent1 = third.0.0;
+      accent2 = third.0.1;
+      accent3 = fourth.0.0;
+      accent4 = fourth.0.1;
+      accent5 = fifth.0.0;
+      accent6 = fifth.0.1;
+      hyperlink = sixth.0.0;
+      followed_hyperlink = sixth.0.1;
     },
-    followed_hyperlink.1,
+    sixth.1,
   )
 
 -- no word is left
@@ -213,121 +215,175 @@ ended (value, next ∷ words) = None
 abbrev pub with_text : {A : Type 0} → A × List (List ℕ) → Option (A × List ℕ)
 with_text (value, words) = option_map (λ text. (value, text)) (unescaped (text_of words))
 
+-- ---- the tables
+
+-- words that begin commands of one form, and the command that each makes of a value of that form
+abbrev pub Table : Type 0 → Type 0
+Table A = List (List ℕ × (A → Command))
+
+-- the command of a word and a value by a table
+abbrev pub by_table : {A : Type 0} → Table A → List ℕ → A → Option Command
+by_table table first value = option_map (λ entry. entry.1 value) (find (λ entry. bytes_eq entry.0 first) table)
+
+-- the command of a word with these words behind it and no others
+abbrev pub exactly : {A : Type 0} → Reader A → (List ℕ → A → Option Command) → List ℕ → List (List ℕ) → Option Command
+exactly read command first words = option_and_then (command first) (option_and_then ended (read words))
+
+-- on a cell
+abbrev pub cell_commands : Table NamedCell
+cell_commands = (codes "get", Get) ∷ (codes "unlink", Unlink) ∷ (codes "unmerge", Unmerge) ∷ []
+
+unfoldable pub cell_command : List ℕ → NamedCell → Option Command
+cell_command first cell = by_table cell_commands first cell
+
+-- on a rectangle
+abbrev pub area_commands : Table NamedArea
+area_commands = (codes "merge", Merge) ∷ (codes "clear", Clear) ∷ (codes "clear-contents", ClearContents) ∷ (codes "clear-formatting", ClearFormatting) ∷ []
+
+unfoldable pub area_command : List ℕ → NamedArea → Option Command
+area_command first area = by_table area_commands first area
+
+-- on a rectangle and a line
+abbrev pub fill_commands : Table NamedFill
+fill_commands = (codes "fill-rows", FillRows) ∷ (codes "fill-columns", FillColumns) ∷ []
+
+unfoldable pub fill_command : List ℕ → NamedFill → Option Command
+fill_command first fill = by_table fill_commands first fill
+
+-- on rows or columns
+abbrev pub lines_commands : Table NamedLines
+lines_commands =
+    (codes "insert-rows", InsertRows)
+    ∷ (codes "insert-columns", InsertColumns)
+    ∷ (codes "delete-rows", DeleteRows)
+    ∷ (codes "delete-columns", DeleteColumns)
+    ∷ (codes "hide-rows", λ lines. HideRows (span_of lines))
+    ∷ (codes "show-rows", λ lines. ShowRows (span_of lines))
+    ∷ (codes "hide-columns", λ lines. HideColumns (span_of lines))
+    ∷ (codes "show-columns", λ lines. ShowColumns (span_of lines))
+    ∷ []
+
+unfoldable pub lines_command : List ℕ → NamedLines → Option Command
+lines_command first lines = by_table lines_commands first lines
+
+-- on rows or columns and a number
+abbrev pub move_commands : Table NamedMove
+move_commands =
+    (codes "move-rows", MoveRows)
+    ∷ (codes "move-columns", MoveColumns)
+    ∷ (codes "width", λ move. Width (size_of move))
+    ∷ (codes "height", λ move. Height (size_of move))
+    ∷ []
+
+unfoldable pub move_command : List ℕ → NamedMove → Option Command
+move_command first move = by_table move_commands first move
+
+-- on how many lines of a sheet
+abbrev pub count_commands : Table NamedCount
+count_commands = (codes "freeze-rows", FreezeRows) ∷ (codes "freeze-columns", FreezeColumns) ∷ []
+
+unfoldable pub count_command : List ℕ → NamedCount → Option Command
+count_command first named = by_table count_commands first named
+
+-- on a sheet
+abbrev pub sheet_commands : Table ℕ
+sheet_commands = (codes "duplicate-sheet", DuplicateSheet) ∷ (codes "delete-sheet", DeleteSheet) ∷ (codes "hide-sheet", HideSheet) ∷ (codes "unhide-sheet", UnhideSheet) ∷ []
+
+unfoldable pub sheet_command : List ℕ → ℕ → Option Command
+sheet_command first sheet = by_table sheet_commands first sheet
+
+-- words that begin commands, and how the words behind each are read
+abbrev pub Readers : Type 0
+Readers = List (List ℕ × (List (List ℕ) → Option Command))
+
+-- the command that words are by such readers: the first is that of an entry, and the others are read as it says
+abbrev pub by_reader : Readers → List ℕ → List (List ℕ) → Option Command
+by_reader readers first words = option_and_then (λ entry. entry.1 words) (find (λ entry. bytes_eq entry.0 first) readers)
+
 -- a command without words behind it
 abbrev pub alone : Command → List (List ℕ) → Option Command
 alone command words = ended (command, words)
 
--- a command with these words and no others
-abbrev pub exactly : {A : Type 0} → Reader A → (A → Command) → List (List ℕ) → Option Command
-exactly read command words = option_map command (option_and_then ended (read words))
+-- a command of its own form
+abbrev pub only : {A : Type 0} → Reader A → (A → Command) → List (List ℕ) → Option Command
+only read command words = option_map command (option_and_then ended (read words))
 
 -- a command whose words are a text
 abbrev pub only_text : (List ℕ → Command) → List (List ℕ) → Option Command
 only_text command words = option_map command (unescaped (text_of words))
 
 -- a command with these words and then a text
-abbrev pub and_text : {A : Type 0} → Reader A → (A → List ℕ → Option Command) → List (List ℕ) → Option Command
-and_text read command words = option_and_then (λ found. command found.0 found.1) (option_and_then with_text (read words))
+abbrev pub and_text : {A : Type 0} → Reader A → (A → List ℕ → Command) → List (List ℕ) → Option Command
+and_text read command words = option_map (λ found. command found.0 found.1) (option_and_then with_text (read words))
 
--- ---- the tables
-
--- words that commands begin with, and how the words behind each are read
-abbrev pub Table : Type 0
-Table = List (List ℕ × (List (List ℕ) → Option Command))
-
--- the command that words are by a table: the first is that of an entry, and the others are read as it says
-abbrev pub by_table : Table → List ℕ → List (List ℕ) → Option Command
-by_table table first words = option_and_then (λ entry. entry.1 words) (find (λ entry. bytes_eq entry.0 first) table)
-
--- on cells, on rectangles and on conditional rules
-abbrev pub cell_commands : Table
-cell_commands =
-    (codes "set", and_text cell_words (λ cell text. Some (Set cell text)))
-    ∷ (codes "get", exactly cell_words Get)
-    ∷ (codes "array", and_text area_words (λ area text. Some (Array area text)))
-    ∷ (codes "link", and_text cell_words (λ cell text. Some (Link cell text)))
-    ∷ (codes "unlink", exactly cell_words Unlink)
-    ∷ (codes "merge", exactly area_words Merge)
-    ∷ (codes "unmerge", exactly cell_words Unmerge)
-    ∷ (codes "style", and_text path_words (λ named text. Some (Style named text)))
-    ∷ (codes "clear", exactly area_words Clear)
-    ∷ (codes "clear-contents", exactly area_words ClearContents)
-    ∷ (codes "clear-formatting", exactly area_words ClearFormatting)
-    ∷ (codes "fill-rows", exactly fill_words FillRows)
-    ∷ (codes "fill-columns", exactly fill_words FillColumns)
-    ∷ (codes "rule", and_text area_words (λ area text. Some (Rule area text)))
-    ∷ (codes "rule-delete", exactly rule_words RuleDelete)
-    ∷ (codes "rule-swap", exactly swap_words RuleSwap)
-    ∷ []
-
-unfoldable pub cell_command : List ℕ → List (List ℕ) → Option Command
-cell_command first words = by_table cell_commands first words
-
--- on rows and columns
-abbrev pub line_commands : Table
-line_commands =
-    (codes "insert-rows", exactly lines_words InsertRows)
-    ∷ (codes "insert-columns", exactly lines_words InsertColumns)
-    ∷ (codes "delete-rows", exactly lines_words DeleteRows)
-    ∷ (codes "delete-columns", exactly lines_words DeleteColumns)
-    ∷ (codes "move-rows", exactly move_words MoveRows)
-    ∷ (codes "move-columns", exactly move_words MoveColumns)
-    ∷ (codes "width", exactly move_words (λ move. Width (size_of move)))
-    ∷ (codes "height", exactly move_words (λ move. Height (size_of move)))
-    ∷ (codes "hide-rows", exactly lines_words (λ lines. HideRows (span_of lines)))
-    ∷ (codes "show-rows", exactly lines_words (λ lines. ShowRows (span_of lines)))
-    ∷ (codes "hide-columns", exactly lines_words (λ lines. HideColumns (span_of lines)))
-    ∷ (codes "show-columns", exactly lines_words (λ lines. ShowColumns (span_of lines)))
-    ∷ (codes "freeze-rows", exactly count_words FreezeRows)
-    ∷ (codes "freeze-columns", exactly count_words FreezeColumns)
-    ∷ []
-
-unfoldable pub line_command : List ℕ → List (List ℕ) → Option Command
-line_command first words = by_table line_commands first words
-
--- on the list of sheets and on a field of a sheet
-abbrev pub sheet_commands : Table
-sheet_commands =
+-- each of its own form
+abbrev pub single_commands : Readers
+single_commands =
     (codes "new-sheet", alone NewSheet)
-    ∷ (codes "duplicate-sheet", exactly sheet_word DuplicateSheet)
-    ∷ (codes "delete-sheet", exactly sheet_word DeleteSheet)
-    ∷ (codes "move-sheet", exactly sheet_move_words MoveSheet)
-    ∷ (codes "rename-sheet", and_text sheet_word (λ sheet text. Some (RenameSheet sheet text)))
-    ∷ (codes "hide-sheet", exactly sheet_word HideSheet)
-    ∷ (codes "unhide-sheet", exactly sheet_word UnhideSheet)
-    ∷ (codes "color", exactly color_words SheetColor)
-    ∷ (codes "grid", exactly grid_words GridLines)
-    ∷ []
-
-unfoldable pub sheet_command : List ℕ → List (List ℕ) → Option Command
-sheet_command first words = by_table sheet_commands first words
-
--- on defined names, on a setting of the workbook and on the session
-abbrev pub book_commands : Table
-book_commands =
-    (codes "name", and_text name_words (λ name text. Some (Name name text)))
-    ∷ (codes "name-update", and_text update_words (λ update text. Some (NameUpdate update text)))
-    ∷ (codes "name-delete", exactly name_words NameDelete)
-    ∷ (codes "title", only_text Title)
-    ∷ (codes "theme", exactly theme_words ThemeColors)
-    ∷ (codes "locale", exactly (word name_of) Locale)
-    ∷ (codes "zone", exactly (word name_of) Zone)
-    ∷ (codes "language", exactly (word name_of) Language)
     ∷ (codes "undo", alone Undo)
     ∷ (codes "redo", alone Redo)
     ∷ (codes "sync", alone Sync)
     ∷ (codes "show", alone Show)
+    ∷ (codes "move-sheet", only sheet_move_words MoveSheet)
+    ∷ (codes "rule-delete", only rule_words RuleDelete)
+    ∷ (codes "rule-swap", only swap_words RuleSwap)
+    ∷ (codes "color", only color_words SheetColor)
+    ∷ (codes "grid", only grid_words GridLines)
+    ∷ (codes "theme", only theme_words ThemeColors)
     ∷ []
 
-unfoldable pub book_command : List ℕ → List (List ℕ) → Option Command
-book_command first words = by_table book_commands first words
+unfoldable pub single_command : List ℕ → List (List ℕ) → Option Command
+single_command first words = by_reader single_commands first words
+
+-- with a text
+abbrev pub text_commands : Readers
+text_commands =
+    (codes "set", and_text cell_words Set)
+    ∷ (codes "link", and_text cell_words Link)
+    ∷ (codes "array", and_text area_words Array)
+    ∷ (codes "rule", and_text area_words Rule)
+    ∷ (codes "style", and_text path_words Style)
+    ∷ (codes "rename-sheet", and_text sheet_word RenameSheet)
+    ∷ (codes "name", and_text name_words Name)
+    ∷ (codes "name-update", and_text update_words NameUpdate)
+    ∷ (codes "title", only_text Title)
+    ∷ []
+
+unfoldable pub text_command : List ℕ → List (List ℕ) → Option Command
+text_command first words = by_reader text_commands first words
+
+-- with a name or a word that the workbook keeps
+abbrev pub word_commands : Readers
+word_commands =
+    (codes "name-delete", only name_words NameDelete)
+    ∷ (codes "locale", only (word name_of) Locale)
+    ∷ (codes "zone", only (word name_of) Zone)
+    ∷ (codes "language", only (word name_of) Language)
+    ∷ []
+
+unfoldable pub word_command : List ℕ → List (List ℕ) → Option Command
+word_command first words = by_reader word_commands first words
 
 -- ---- lines
+
+-- on cells or rectangles, and on rows, columns or sheets
+unfoldable pub place_command : List ℕ → List (List ℕ) → Option Command
+place_command first words =
+    option_or (exactly cell_words cell_command first words) (option_or (exactly area_words area_command first words) (exactly fill_words fill_command first words))
+
+unfoldable pub line_command : List ℕ → List (List ℕ) → Option Command
+line_command first words =
+    option_or (exactly lines_words lines_command first words) (option_or (exactly move_words move_command first words) (exactly count_words count_command first words))
 
 -- the command that words are: that of the one table which has such words
 abbrev pub from_words : List (List ℕ) → Option Command
 from_words [] = None
-from_words (first ∷ words) = option_or (cell_command first words) (option_or (line_command first words) (option_or (sheet_command first words) (book_command first words)))
+from_words (first ∷ words) =
+    option_or (text_command first words)
+    (option_or (place_command first words)
+    (option_or (line_command first words)
+    (option_or (exactly sheet_word sheet_command first words)
+    (option_or (single_command first words) (word_command first words)))))
 
 -- the command that a line is: its words are parted by single spaces
 abbrev pub command_of : List ℕ → Option Command

@@ -13,6 +13,7 @@ mod escape;
 mod number;
 mod parse;
 mod parts;
+mod readers;
 mod reference;
 
 pub use command::{

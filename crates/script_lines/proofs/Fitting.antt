@@ -28,11 +28,11 @@ use Rattle.base_styles.specs.declared.RgbColor.{RgbColor}
 use Rattle.base_styles.specs.declared.Color.TheVariants.{None as NoColor, Rgb, Theme}
 use Rattle.script_lines.specs.Escapes.{unescaped}
 use Rattle.script_lines.proofs.EscapeLaws.{unescaped-IsUtf8}
-use Rattle.script_lines.specs.Commands.{Reader, word, sheet_word, cell_words, area_words, lines_words, move_words, sheet_move_words, rule_words, swap_words, color_words, grid_words, bit_of, scope_of, name_of, name_words, update_words, path_words, fill_words, count_words, two_parts, theme_words, ended, with_text, Table, by_table, exactly, Readers, by_reader, alone, only, only_text, and_text, cell_commands, cell_command, area_commands, area_command, fill_commands, fill_command, lines_commands, lines_command, move_commands, move_command, count_commands, count_command, sheet_commands, sheet_command, single_commands, single_command, text_commands, text_command, word_commands, word_command, place_command, line_command, from_words, command_of}
+use Rattle.script_lines.specs.Commands.{Reader, word, sheet_word, cell_words, area_words, lines_words, move_words, sheet_move_words, rule_words, swap_words, run_words, color_words, grid_words, bit_of, scope_of, name_of, name_words, update_words, path_words, fill_words, count_words, two_parts, theme_words, ended, with_text, Table, by_table, exactly, Readers, by_reader, alone, only, only_text, and_text, cell_commands, cell_command, area_commands, area_command, fill_commands, fill_command, lines_commands, lines_command, move_commands, move_command, count_commands, count_command, sheet_commands, sheet_command, single_commands, single_command, text_commands, text_command, word_commands, word_command, place_command, line_command, from_words, command_of}
 use Rattle.script_lines.specs.declared.reference.Reference.{Reference}
 use Rattle.script_lines.specs.declared.command.Command.{Command}
-use Rattle.script_lines.specs.declared.command.Command.TheVariants.{Set, Get, Array, Link, Unlink, Merge, Unmerge, InsertRows, InsertColumns, DeleteRows, DeleteColumns, MoveRows, MoveColumns, NewSheet, DuplicateSheet, DeleteSheet, MoveSheet, RenameSheet, HideSheet, UnhideSheet, SheetColor, GridLines, Name, NameUpdate, NameDelete, Undo, Redo, Sync, Show, Width, Height, HideRows, ShowRows, HideColumns, ShowColumns, FreezeRows, FreezeColumns, Style, Clear, ClearContents, ClearFormatting, Title, ThemeColors, Locale, Zone, Language, FillRows, FillColumns, Rule, RuleDelete, RuleSwap}
-use Rattle.script_lines.specs.CommandFits.{IsNamed, IsNamedArea, CellFits, AreaFits, LinesFit, MoveFits, SheetFits, SheetMoveFits, IsNamedColor, ColorFits, GridFits, NameFits, PathFits, UpdateFits, CommandFits, CountFits, PartsFit, ThemeFits, FillFits, RuleFits, SwapFits}
+use Rattle.script_lines.specs.declared.command.Command.TheVariants.{Set, Get, Array, Link, Unlink, Merge, Unmerge, InsertRows, InsertColumns, DeleteRows, DeleteColumns, MoveRows, MoveColumns, NewSheet, DuplicateSheet, DeleteSheet, MoveSheet, RenameSheet, HideSheet, UnhideSheet, SheetColor, GridLines, Name, NameUpdate, NameDelete, Undo, Redo, Sync, Show, Width, Height, HideRows, ShowRows, HideColumns, ShowColumns, FreezeRows, FreezeColumns, Style, Clear, ClearContents, ClearFormatting, Title, ThemeColors, Locale, Zone, Language, FillRows, FillColumns, Rule, RuleDelete, RuleSwap, Make}
+use Rattle.script_lines.specs.CommandFits.{IsNamed, IsNamedArea, CellFits, AreaFits, LinesFit, MoveFits, SheetFits, SheetMoveFits, IsNamedColor, ColorFits, GridFits, NameFits, PathFits, UpdateFits, CommandFits, CountFits, PartsFit, ThemeFits, FillFits, RuleFits, SwapFits, RunFits}
 
 -- ---- lists
 
@@ -312,6 +312,12 @@ swap_words_fit words t =
     (λ sheet s. step (Fit SheetFits) (Fit SwapFits) (sheet_word sheet.1) _ (sheet_fits sheet.1 s.1)
     (λ index_a a. step (Fit SheetFits) (Fit SwapFits) (sheet_word index_a.1) _ (sheet_fits index_a.1 a.1) (λ index_b b. ((s.0, a.0, b.0), b.1))))
 
+run_words_fit : Reads RunFits run_words
+run_words_fit words t =
+    step (Fit (λ seed. seed < 2 ^ 64)) (Fit RunFits) (word (number_below (2 ^ 64)) words) _ (word_fits (λ seed. seed < 2 ^ 64) (number_below (2 ^ 64)) (number_fits (2 ^ 64)) words t)
+    (λ seed s. step (Fit (λ count. count < 100001)) (Fit RunFits) (word (number_below 100001) seed.1) _
+    (word_fits (λ count. count < 100001) (number_below 100001) (number_fits 100001) seed.1 s.1) (λ count c. ((s.0, c.0), c.1)))
+
 color_words_fit : Reads ColorFits color_words
 color_words_fit words t =
     step (Fit SheetFits) (Fit ColorFits) (sheet_word words) _ (sheet_fits words t)
@@ -517,6 +523,7 @@ single_entries_fit =
     ▸ only_fits ColorFits color_words SheetColor color_words_fit (λ named c. c)
     ▸ only_fits GridFits grid_words GridLines grid_fits (λ named g. g)
     ▸ only_fits ThemeFits theme_words ThemeColors theme_words_fit (λ theme p. p)
+    ▸ only_fits RunFits run_words Make run_words_fit (λ run p. p)
     ▸ tt
 
 text_entries_fit : AllByRecursion Readable text_commands

@@ -23,8 +23,9 @@ use Rattle.script_lines.specs.declared.command.NamedFill.{NamedFill}
 use Rattle.script_lines.specs.declared.command.NamedCount.{NamedCount}
 use Rattle.script_lines.specs.declared.command.NamedRule.{NamedRule}
 use Rattle.script_lines.specs.declared.command.NamedSwap.{NamedSwap}
+use Rattle.script_lines.specs.declared.command.NamedRun.{NamedRun}
 use Rattle.script_lines.specs.declared.command.Command.{Command}
-use Rattle.script_lines.specs.declared.command.Command.TheVariants.{Set, Get, Array, Link, Unlink, Merge, Unmerge, InsertRows, InsertColumns, DeleteRows, DeleteColumns, MoveRows, MoveColumns, NewSheet, DuplicateSheet, DeleteSheet, MoveSheet, RenameSheet, HideSheet, UnhideSheet, SheetColor, GridLines, Name, NameUpdate, NameDelete, Undo, Redo, Sync, Show, Width, Height, HideRows, ShowRows, HideColumns, ShowColumns, FreezeRows, FreezeColumns, Style, Clear, ClearContents, ClearFormatting, Title, ThemeColors, Locale, Zone, Language, FillRows, FillColumns, Rule, RuleDelete, RuleSwap}
+use Rattle.script_lines.specs.declared.command.Command.TheVariants.{Set, Get, Array, Link, Unlink, Merge, Unmerge, InsertRows, InsertColumns, DeleteRows, DeleteColumns, MoveRows, MoveColumns, NewSheet, DuplicateSheet, DeleteSheet, MoveSheet, RenameSheet, HideSheet, UnhideSheet, SheetColor, GridLines, Name, NameUpdate, NameDelete, Undo, Redo, Sync, Show, Width, Height, HideRows, ShowRows, HideColumns, ShowColumns, FreezeRows, FreezeColumns, Style, Clear, ClearContents, ClearFormatting, Title, ThemeColors, Locale, Zone, Language, FillRows, FillColumns, Rule, RuleDelete, RuleSwap, Make}
 
 -- a row and a column that letters and digits can name
 pub record IsNamed (row column : ℤ) : Type 0 where
@@ -78,6 +79,10 @@ RuleFits named = SheetFits named.sheet × (named.index < 2 ^ 32)
 
 abbrev pub SwapFits : NamedSwap → Type 0
 SwapFits named = SheetFits named.sheet × (named.index_a < 2 ^ 32) × (named.index_b < 2 ^ 32)
+
+-- a seed that 64 bits hold, and a number of commands that a line may draw
+abbrev pub RunFits : NamedRun → Type 0
+RunFits run = (run.seed < 2 ^ 64) × (run.count < 100001)
 
 -- a colour whose parts are bytes
 abbrev pub IsNamedColor : Color → Type 0
@@ -173,3 +178,4 @@ CommandFits (ClearFormatting area) = AreaFits area
 CommandFits (Rule area text) = AreaFits area × IsUtf8 text
 CommandFits (RuleDelete named) = RuleFits named
 CommandFits (RuleSwap named) = SwapFits named
+CommandFits (Make run) = RunFits run

@@ -28,8 +28,9 @@ use Rattle.script_lines.specs.declared.command.NamedPath.{NamedPath}
 use Rattle.script_lines.specs.declared.command.NamedUpdate.{NamedUpdate}
 use Rattle.script_lines.specs.declared.command.NamedRule.{NamedRule}
 use Rattle.script_lines.specs.declared.command.NamedSwap.{NamedSwap}
+use Rattle.script_lines.specs.declared.command.NamedRun.{NamedRun}
 use Rattle.script_lines.specs.declared.command.Command.{Command}
-use Rattle.script_lines.specs.declared.command.Command.TheVariants.{Set, Get, Array, Link, Unlink, Merge, Unmerge, InsertRows, InsertColumns, DeleteRows, DeleteColumns, MoveRows, MoveColumns, NewSheet, DuplicateSheet, DeleteSheet, MoveSheet, RenameSheet, HideSheet, UnhideSheet, SheetColor, GridLines, Name, NameUpdate, NameDelete, Undo, Redo, Sync, Show, Width, Height, HideRows, ShowRows, HideColumns, ShowColumns, FreezeRows, FreezeColumns, Style, Clear, ClearContents, ClearFormatting, Title, ThemeColors, Locale, Zone, Language, FillRows, FillColumns, Rule, RuleDelete, RuleSwap}
+use Rattle.script_lines.specs.declared.command.Command.TheVariants.{Set, Get, Array, Link, Unlink, Merge, Unmerge, InsertRows, InsertColumns, DeleteRows, DeleteColumns, MoveRows, MoveColumns, NewSheet, DuplicateSheet, DeleteSheet, MoveSheet, RenameSheet, HideSheet, UnhideSheet, SheetColor, GridLines, Name, NameUpdate, NameDelete, Undo, Redo, Sync, Show, Width, Height, HideRows, ShowRows, HideColumns, ShowColumns, FreezeRows, FreezeColumns, Style, Clear, ClearContents, ClearFormatting, Title, ThemeColors, Locale, Zone, Language, FillRows, FillColumns, Rule, RuleDelete, RuleSwap, Make}
 
 -- the next step, if this one has a value
 infixl 10 ◌>>=◌
@@ -122,6 +123,13 @@ swap_words words = do
   index_a ← sheet_word sheet.1
   index_b ← sheet_word index_a.1
   Some (record { sheet = sheet.0; index_a = index_a.0; index_b = index_b.0 }, index_b.1)
+
+-- `SEED COUNT`: a number of 64 bits, and one that is at most 100,000
+abbrev pub run_words : Reader NamedRun
+run_words words = do
+  seed ← word (number_below (2 ^ 64)) words
+  count ← word (number_below 100001) seed.1
+  Some (record { seed = seed.0; count = count.0 }, count.1)
 
 -- `S COLOUR`
 abbrev pub color_words : Reader NamedColor
@@ -330,6 +338,7 @@ single_commands =
     ∷ (codes "color", only color_words SheetColor)
     ∷ (codes "grid", only grid_words GridLines)
     ∷ (codes "theme", only theme_words ThemeColors)
+    ∷ (codes "make", only run_words Make)
     ∷ []
 
 unfoldable pub single_command : List ℕ → List (List ℕ) → Option Command

@@ -148,6 +148,14 @@ pub struct NamedSwap {
     pub index_b: u32,
 }
 
+/// Commands that are drawn from a seed.
+#[derive(Clone, Copy, Debug)]
+pub struct NamedRun {
+    pub seed: u64,
+    /// How many they are.
+    pub count: u32,
+}
+
 /// What a line of a script asks for. Rows, columns and counts are those that the line names, and may lie
 /// outside every sheet.
 #[derive(Debug, Drop)]
@@ -240,6 +248,8 @@ pub enum Command {
     Sync,
     /// `show`: print the workbook.
     Show,
+    /// `make SEED COUNT`: run commands that are drawn from a seed, and answer how many were refused.
+    Make(NamedRun),
     /// `style S AREA PATH TEXT`: give an attribute of styles a value.
     Style(NamedPath, Text),
     /// `clear S AREA`: take cells and links away.

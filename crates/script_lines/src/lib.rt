@@ -18,8 +18,8 @@ mod reference;
 
 pub use command::{
     Command, NamedArea, NamedCell, NamedColor, NamedCount, NamedFill, NamedGrid, NamedLines,
-    NamedMove, NamedName, NamedPath, NamedRule, NamedSheetMove, NamedSize, NamedSpan, NamedSwap,
-    NamedUpdate,
+    NamedMove, NamedName, NamedPath, NamedRule, NamedRun, NamedSheetMove, NamedSize, NamedSpan,
+    NamedSwap, NamedUpdate,
 };
 pub use draws::drawn_command;
 pub use escape::{escapes_read_back, push_escaped};

@@ -7,26 +7,26 @@ fn are_digits(bytes: &[u8]) -> bool
     bytes.iter().all(|byte| *byte >= 48 && *byte < 58)
 }
 
-fn value_of(digits: &[u8], limit: u64) -> Option<u32>
+fn value_of(digits: &[u8], limit: u128) -> Option<u64>
     requires digits { are_digits digits.now ≡ true }
     requires low { 1 ≤ limit }
-    requires high { limit ≤ 2 ^ 32 }
+    requires high { limit ≤ 2 ^ 64 }
     ensures { result ≡ value_below limit digits.now }
 {
-    let mut value = 0u64;
+    let mut value = 0u128;
     for byte in digits {
-        value = value * 10 + u64::from(*byte - 48);
+        value = value * 10 + u128::from(*byte - 48);
         if value >= limit {
             return None;
         }
     }
-    Some(value as u32)
+    Some(value as u64)
 }
 
 /// The number that the digits spell, below a limit. There may be any number of zeros before it.
-fn read_below(bytes: &[u8], limit: u64) -> Option<u32>
+fn read_below(bytes: &[u8], limit: u128) -> Option<u64>
     requires low { 1 ≤ limit }
-    requires high { limit ≤ 2 ^ 32 }
+    requires high { limit ≤ 2 ^ 64 }
     ensures value { result ≡ number_below limit bytes.now }
     ensures below { IfSome result (λ value. value < limit) }
 {
@@ -36,25 +36,46 @@ fn read_below(bytes: &[u8], limit: u64) -> Option<u32>
     value_of(bytes, limit)
 }
 
+/// The number that the digits spell, below 2^64.
+pub(crate) fn read_u64(bytes: &[u8]) -> Option<u64>
+    ensures { result ≡ number_below (2 ^ 64) bytes.now }
+{
+    read_below(bytes, 0x1_0000_0000_0000_0000)
+}
+
+fn short(number: u64) -> u32
+    requires { number < 2 ^ 32 }
+    ensures { result ≡ number }
+{
+    number as u32
+}
+
 /// The number that the digits spell, below 2^32.
 pub(crate) fn read_u32(bytes: &[u8]) -> Option<u32>
     ensures { result ≡ number_below (2 ^ 32) bytes.now }
 {
-    read_below(bytes, 0x1_0000_0000)
+    read_below(bytes, 0x1_0000_0000).map(short)
 }
 
-fn positive(number: u32) -> i32
+/// How many commands are drawn: the number that the digits spell, at most 100,000.
+pub(crate) fn read_drawn(bytes: &[u8]) -> Option<u32>
+    ensures { result ≡ number_below 100001 bytes.now }
+{
+    read_below(bytes, 100_001).map(short)
+}
+
+fn positive(number: u64) -> i32
     requires { number < 2 ^ 31 }
     ensures { result ≡ pos number }
 {
     number as i32
 }
 
-fn negative(number: u32) -> i32
+fn negative(number: u64) -> i32
     requires { number ≤ 2 ^ 31 }
     ensures { result ≡ neg_ℤ (pos number) }
 {
-    (-i64::from(number)) as i32
+    (-(number as i64)) as i32
 }
 
 /// The number from -2^31 to 2^31 - 1 that the digits spell, behind a minus sign or without one.

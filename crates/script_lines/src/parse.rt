@@ -10,8 +10,8 @@ use crate::escape::unescape;
 use crate::parts::{split_word, text_of};
 use crate::readers::{
     alone, area_words, cell_words, color_words, count_words, ended, fill_words, grid_words,
-    lines_words, move_words, name_words, path_words, rule_words, sheet_move_words, sheet_word,
-    size_of, span_of, swap_words, text_word, theme_words, update_words, with_text,
+    lines_words, move_words, name_words, path_words, rule_words, run_words, sheet_move_words,
+    sheet_word, size_of, span_of, swap_words, text_word, theme_words, update_words, with_text,
 };
 use base_values::EditError;
 use std::alloc::Global;
@@ -229,6 +229,7 @@ fn read_single_words(word: &str, words: Option<&str>) -> Option<Command>
         "color" => ended(color_words(words)).map(Command::SheetColor),
         "grid" => ended(grid_words(words)).map(Command::GridLines),
         "theme" => ended(theme_words(words)).map(Command::ThemeColors),
+        "make" => ended(run_words(words)).map(Command::Make),
         _ => None,
     }
 }

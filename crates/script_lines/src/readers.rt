@@ -1,19 +1,19 @@
-ghost use Rattle.std.specs.Prelude.{◌≡◌, IfOk, IsOkUnless};
+ghost use Rattle.std.specs.Prelude.{◌≡◌, ◌^◌, IfOk, IsOkUnless};
 ghost use Rattle.std.specs.Option.{option_and_then, option_copied, option_map};
 ghost use Rattle.base_values.specs.declared.error.EditError.TheVariants.{NoMemory};
 ghost use Rattle.script_lines.specs.Parts.{parts_after};
-ghost use Rattle.script_lines.specs.Number.{signed_number};
+ghost use Rattle.script_lines.specs.Number.{number_below, signed_number};
 ghost use Rattle.script_lines.specs.Colors.{parts_of};
 ghost use Rattle.script_lines.specs.Commands as spec;
 
 use crate::color::{color_of, parts_of};
 use crate::command::{
     Command, NamedArea, NamedCell, NamedColor, NamedCount, NamedFill, NamedGrid, NamedLines,
-    NamedMove, NamedName, NamedPath, NamedRule, NamedSheetMove, NamedSize, NamedSpan, NamedSwap,
-    NamedUpdate,
+    NamedMove, NamedName, NamedPath, NamedRule, NamedRun, NamedSheetMove, NamedSize, NamedSpan,
+    NamedSwap, NamedUpdate,
 };
 use crate::escape::unescape;
-use crate::number::{read_i32, read_u32};
+use crate::number::{read_drawn, read_i32, read_u32, read_u64};
 use crate::parts::{split_word, text_of};
 use crate::reference::{read_area, read_reference};
 use base_styles::{RgbColor, Theme};
@@ -226,6 +226,47 @@ pub(crate) fn swap_words(words: Option<&str>) -> Option<(NamedSwap, Option<&str>
         index_b,
     };
     Some((swap, words))
+}
+
+/// A seed, and the words behind it.
+fn seed_word(words: Option<&str>) -> Option<(u64, Option<&str>)>
+    ensures { option_map (λ found. (found.0, parts_after 32 (option_copied found.1))) result ≡ spec.word (number_below (2 ^ 64)) (parts_after 32 (option_copied words.entry)) }
+{
+    let Some(words) = words else {
+        return None;
+    };
+    let (word, words) = split_word(words);
+    match read_u64(word.as_bytes()) {
+        Some(seed) => Some((seed, words)),
+        None => None,
+    }
+}
+
+/// How many commands are drawn, and the words behind it.
+fn drawn_word(words: Option<&str>) -> Option<(u32, Option<&str>)>
+    ensures { option_map (λ found. (found.0, parts_after 32 (option_copied found.1))) result ≡ spec.word (number_below 100001) (parts_after 32 (option_copied words.entry)) }
+{
+    let Some(words) = words else {
+        return None;
+    };
+    let (word, words) = split_word(words);
+    match read_drawn(word.as_bytes()) {
+        Some(count) => Some((count, words)),
+        None => None,
+    }
+}
+
+/// `SEED COUNT`, and the words behind it.
+pub(crate) fn run_words(words: Option<&str>) -> Option<(NamedRun, Option<&str>)>
+    ensures { option_map (λ found. (found.0, parts_after 32 (option_copied found.1))) result ≡ spec.run_words (parts_after 32 (option_copied words.entry)) }
+{
+    let Some((seed, words)) = seed_word(words) else {
+        return None;
+    };
+    let Some((count, words)) = drawn_word(words) else {
+        return None;
+    };
+    Some((NamedRun { seed, count }, words))
 }
 
 /// `S COLOUR`, and the words behind it.

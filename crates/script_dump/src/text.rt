@@ -23,7 +23,8 @@ pub(crate) fn push_word(out: &mut Vec<u8>, word: &[u8]) -> Result<(), AllocError
     Ok(())
 }
 
-pub(crate) fn push_unsigned(alloc: Global, out: &mut Vec<u8>, number: u32) -> Result<(), AllocError>
+/// Writes a number at the end. Where memory ends, nothing has been written.
+pub fn push_unsigned(alloc: Global, out: &mut Vec<u8>, number: u32) -> Result<(), AllocError>
     ensures { OnOk result (out.new.items ≡ out.old.items ++ decimal number) }
 {
     let text = number.to_string(alloc)?;

@@ -1,5 +1,7 @@
 mod Ends
+mod Draws
 mod Lines
+mod Own
 mod Rules
 mod Runs
 mod Starts

@@ -19,7 +19,7 @@ use Rattle.user_model.specs.Settings.{language_named, language_set, locale_given
 use Rattle.open_book.specs.Document.{Document}
 use Rattle.open_book.specs.Stands.{StandsFor, Moves, Turns}
 use Rattle.open_book.specs.Values.{Session as Opened}
-use Rattle.script_runs.specs.Script.{outcome, state_after}
+use Rattle.script_runs.specs.Script.{outcome, reply_text, state_after}
 use Rattle.script_runs.specs.Session.{SessionStands, Runs}
 use Rattle.script_runs.specs.declared.session.Session.{Session}
 
@@ -96,12 +96,12 @@ answered (Err error) old new s expected stands turns err memory =
 -- a command that made a step and wrote its outcome ran
 pub step_runs : (result done : Result (Unit {0}) EditError) (old new : Session) (s : State) (expected : Result State EditError) → KeepsSync expected s → SessionStands old s
     → Turns done new.model.document expected → OnErr done (new.model ≡ old.model) → new.copy ≡ old.copy
-    → OnOk result (new.out.items ≡ old.out.items ++ outcome done) → OnOk result (IfErr done (λ error. error ≢ NoMemory)) → IsOkUnless result NoMemory
-    → Runs result old new (outcome expected) (state_after expected s) (Unit {0})
+    → OnOk result (new.out.items ≡ old.out.items ++ reply_text (outcome done)) → OnOk result (IfErr done (λ error. error ≢ NoMemory)) → IsOkUnless result NoMemory
+    → Runs result old new (reply_text (outcome expected)) (state_after expected s) (Unit {0})
 step_runs (Ok u) done old new s expected keeps stands turns err copy out memory only =
     let after = answered done old.model new.model s expected stands.model turns err memory in
     record {
-      out = out ∙ ap (λ l. old.out.items ++ l) after.0;
+      out = out ∙ ap (λ reply. old.out.items ++ reply_text reply) after.0;
       stands = record { model = after.1; copy = keeps ∙ stands.copy ∙ ap (λ v. Some v.document.book) (sym copy) };
       only = tt;
       sends = tt;

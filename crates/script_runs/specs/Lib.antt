@@ -1,3 +1,4 @@
 pub mod Run
 pub mod Script
+pub mod Tallies
 pub mod Session

@@ -1,6 +1,7 @@
 -- A script's output on the machine that keeps whole earlier and later workbooks.
-use Rattle.std.proofs.Common.{ℕ, pos, List, [], ◌∷◌, ◌++◌, Option, Some, None, Result, Ok, Err, true, false}
-use Rattle.std.specs.Prelude.{codes}
+use Rattle.std.proofs.Common.{ℕ, ◌+◌, pos, List, [], ◌∷◌, ◌++◌, Option, Some, None, Result, Ok, Err, true, false}
+use Rattle.std.specs.Prelude.{codes, decimal}
+use Rattle.std.specs.List.{flat_map}
 use Rattle.std.specs.Option.{option_map, option_map_or}
 use Rattle.base_values.specs.declared.EditError.{EditError}
 use Rattle.base_values.specs.ErrorNames.{name_of}
@@ -13,7 +14,7 @@ use Rattle.format_rules.specs.declared.CfRule.{CfRule}
 use Rattle.format_rules.specs.declared.CfRule.TheVariants.{Formula as FormulaRule}
 use Rattle.line_edits.specs.declared.EditKind.TheVariants.{Insert, Delete}
 use Rattle.sheet_grid.specs.declared.SheetState.TheVariants.{Visible, Hidden}
-use Rattle.sheet_grid.specs.Book.{new_book}
+use Rattle.sheet_grid.specs.Book.{Book, new_book}
 use Rattle.sheet_history.specs.declared.LineAxis.TheVariants.{Rows, Columns}
 use Rattle.sheet_history.specs.declared.SheetField.TheVariants.{State as StateField, Color as ColorField, GridLines as GridField}
 use Rattle.sheet_history.specs.declared.SheetField.TheVariants.{FrozenRows as FrozenRowsField, FrozenColumns as FrozenColumnsField}
@@ -22,6 +23,7 @@ use Rattle.line_sizes.specs.Heights.{line_feeds}
 use Rattle.script_lines.specs.Parts.{parts_at, without_return}
 use Rattle.script_lines.specs.Escapes.{escaped}
 use Rattle.script_lines.specs.Commands.{command_of}
+use Rattle.script_lines.specs.Draws.{drawn_commands}
 use Rattle.script_lines.specs.declared.Command.{Command}
 use Rattle.script_lines.specs.declared.NamedArea.{NamedArea}
 use Rattle.script_lines.specs.declared.Command.TheVariants as command
@@ -35,6 +37,7 @@ use Rattle.range_styles.specs.declared.Clearing.TheVariants.{Contents, Cells}
 use Rattle.open_book.specs.Machine.{State, begun, edit_of, undo_of, redo_of, synced_of, sync_bytes}
 use Rattle.user_model.specs.Reading.{content_text, formula_typed, link_to, typed}
 use Rattle.user_model.specs.Settings.{language_set, locale_set, zone_set}
+use Rattle.script_runs.specs.declared.tally.Tally.{Tally}
 
 -- the state that a script begins with
 abbrev pub start : State
@@ -42,18 +45,54 @@ start = begun English (new_book (codes "workbook") En Utc)
 
 -- ---- answers
 
+-- what a command answers
+pub data Reply : Type 0 where
+  -- nothing
+  Silence : Reply
+  -- that it was carried out
+  Done : Reply
+  -- that it was refused, and why
+  Refused : EditError → Reply
+  -- the text of a content
+  Value : List ℕ → Reply
+  -- the bytes of a sync
+  Sent : List ℕ → Reply
+  -- a workbook
+  Shown : Book → Reply
+  -- how many commands were drawn and run, and how their answers count
+  Made : ℕ → Tally → Reply
+
+-- the answer to an edit
+abbrev pub outcome : {A : Type 0} → Result A EditError → Reply
+outcome (Ok done) = Done
+outcome (Err error) = Refused error
+
+-- the answer to a question for a content
+abbrev pub value_reply : Result (List ℕ) EditError → Reply
+value_reply (Ok text) = Value text
+value_reply (Err error) = Refused error
+
+-- ---- how answers are written
+
 abbrev pub refusal : EditError → List ℕ
 refusal error = line (codes "error " ++ name_of error)
 
--- the answer to an edit
-abbrev pub outcome : {A : Type 0} → Result A EditError → List ℕ
-outcome (Ok done) = line (codes "ok")
-outcome (Err error) = refusal error
+-- a word and a number
+abbrev pub number_text : List ℕ → ℕ → List ℕ
+number_text word number = word ++ decimal number
 
--- the answer to a question for a content
-abbrev pub value_line : Result (List ℕ) EditError → List ℕ
-value_line (Ok text) = line (codes "value " ++ escaped text)
-value_line (Err error) = refusal error
+abbrev pub made_text : ℕ → Tally → List ℕ
+made_text count tally =
+    number_text (codes "made ") count ++ number_text (codes " ok ") tally.ok ++ number_text (codes " error ") tally.error ++ number_text (codes " sync ") tally.sync
+
+abbrev pub reply_text : Reply → List ℕ
+reply_text Silence = []
+reply_text Done = line (codes "ok")
+reply_text (Refused error) = refusal error
+reply_text (Value text) = line (codes "value " ++ escaped text)
+reply_text (Sent bytes) = line (codes "sync " ++ hex bytes)
+reply_text (Shown book) = dump book
+reply_text (Made count tally) = line (made_text count tally)
 
 -- ---- edits
 
@@ -134,55 +173,87 @@ step_for (command.Language name) s = Some (language_set name s)
 step_for asked s = option_map (λ edit. edit_of edit s) (edit_for asked s)
 
 -- the answer to a command that is never refused
-abbrev pub other_reply : Command → State → List ℕ
-other_reply (command.Get cell) s = value_line (content_text cell.sheet cell.row cell.column s.present s.language)
-other_reply command.Sync s = line (codes "sync " ++ hex (sync_bytes s))
-other_reply command.Show s = dump s.present
-other_reply other s = []
+abbrev pub other_reply : Command → State → Reply
+other_reply (command.Get cell) s = value_reply (content_text cell.sheet cell.row cell.column s.present s.language)
+other_reply command.Sync s = Sent (sync_bytes s)
+other_reply command.Show s = Shown s.present
+other_reply other s = Silence
 
 -- the state after it
 abbrev pub other_next : Command → State → State
 other_next command.Sync s = synced_of s
 other_next other s = s
 
--- the answer to a command
-abbrev pub reply_to : Command → State → List ℕ
-reply_to asked s = option_map_or outcome (step_for asked s) (other_reply asked s)
+-- the answer to a command that draws no others
+abbrev pub plain_reply : Command → State → Reply
+plain_reply asked s = option_map_or outcome (step_for asked s) (other_reply asked s)
 
--- the state after a command
-abbrev pub next_of : Command → State → State
-next_of asked s = option_map_or (λ next. state_after next s) (step_for asked s) (other_next asked s)
+-- the state after it
+abbrev pub step_next : Command → State → State
+step_next asked s = option_map_or (λ next. state_after next s) (step_for asked s) (other_next asked s)
+
+-- the state after such commands, one after another
+abbrev pub after : List Command → State → State
+after [] s = s
+after (c ∷ cs) s = after cs (step_next c s)
+
+-- ---- drawn commands
+
+abbrev pub no_answers : Tally
+no_answers = record { ok = 0; error = 0; sync = 0 }
+
+-- one answer more. A sync counts as that alone
+abbrev pub counted : Reply → Tally → Tally
+counted Done tally = record tally { ok = tally.ok + 1 }
+counted (Refused error) tally = record tally { error = tally.error + 1 }
+counted (Sent bytes) tally = record tally { sync = tally.sync + 1 }
+counted other tally = tally
+
+-- the answers to commands, one after another
+abbrev pub tallied : List Command → State → Tally → Tally
+tallied [] s tally = tally
+tallied (c ∷ cs) s tally = tallied cs (step_next c s) (counted (plain_reply c s) tally)
+
+-- the commands that a command stands for: those that it draws, or itself
+abbrev pub commands_in : Command → List Command
+commands_in (command.Make run) = drawn_commands run.count run.seed
+commands_in other = other ∷ []
+
+-- the answer to a command. Those of drawn commands are counted
+abbrev pub reply_to : Command → State → Reply
+reply_to (command.Make run) s = Made run.count (tallied (drawn_commands run.count run.seed) s no_answers)
+reply_to other s = plain_reply other s
 
 -- ---- lines
 
--- the answer to the command of a line, if it has one
+-- the commands of a line that is one, and of a line that is none
+abbrev pub commands_found : Option Command → List Command
+commands_found None = []
+commands_found (Some command) = commands_in command
+
+-- those of a line; an empty one has none
+abbrev pub commands_on : List ℕ → List Command
+commands_on [] = []
+commands_on (b ∷ bytes) = commands_found (command_of (b ∷ bytes))
+
+-- those of lines, in order
+abbrev pub commands_of : List (List ℕ) → List Command
+commands_of lines = flat_map (λ l. commands_on (without_return l)) lines
+
+-- what is written for the command of a line, if it has one
 abbrev pub command_reply : Option Command → State → List ℕ
 command_reply None s = line (codes "error BadLine")
-command_reply (Some command) s = reply_to command s
+command_reply (Some command) s = reply_text (reply_to command s)
 
--- the state after it
-abbrev pub command_next : Option Command → State → State
-command_next None s = s
-command_next (Some command) s = next_of command s
-
--- an empty line gives no answer, and a line that is no command is a bad line
+-- for an empty line nothing is, and a line that is no command is a bad line
 abbrev pub line_reply : List ℕ → State → List ℕ
 line_reply [] s = []
 line_reply (b ∷ bytes) s = command_reply (command_of (b ∷ bytes)) s
 
-abbrev pub line_next : List ℕ → State → State
-line_next [] s = s
-line_next (b ∷ bytes) s = command_next (command_of (b ∷ bytes)) s
-
--- the answers to lines, one after another
+-- for lines, one after another
 abbrev pub replies : List (List ℕ) → State → List ℕ
 replies [] s = []
-replies (l ∷ ls) s = line_reply (without_return l) s ++ replies ls (line_next (without_return l) s)
-
--- the state after lines
-abbrev pub after : List (List ℕ) → State → State
-after [] s = s
-after (l ∷ ls) s = after ls (line_next (without_return l) s)
+replies (l ∷ ls) s = line_reply (without_return l) s ++ replies ls (after (commands_on (without_return l)) s)
 
 -- the lines of a script
 abbrev pub lines_of : List ℕ → List (List ℕ)
@@ -190,4 +261,4 @@ lines_of script = parts_at 10 script
 
 -- all that a script writes: the answers, and the second copy, which is the workbook at the last sync
 abbrev pub output_of : List ℕ → List ℕ
-output_of script = replies (lines_of script) start ++ line (codes "copy") ++ option_map_or dump (after (lines_of script) start).synced []
+output_of script = replies (lines_of script) start ++ line (codes "copy") ++ option_map_or dump (after (commands_of (lines_of script)) start).synced []

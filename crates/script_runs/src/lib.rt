@@ -8,6 +8,7 @@
 mod output;
 mod run;
 mod session;
+mod tally;
 
 pub use run::{run_script, run_script_surely};
 pub use script_ends::{

@@ -1,6 +1,6 @@
 ghost use Rattle.std.specs.Prelude.{◌≡◌, OnOk, IfOk, IsOkUnless};
 ghost use Rattle.base_values.specs.declared.EditError.TheVariants.{NoMemory};
-ghost use Rattle.script_runs.specs.Script.{lines_of, output_of, start};
+ghost use Rattle.script_runs.specs.Script.{commands_of, lines_of, output_of, start};
 ghost use Rattle.script_runs.specs.Session.{SoundThrough};
 
 use crate::session::Session;
@@ -12,7 +12,7 @@ use std::alloc::Global;
 pub(crate) fn output_text(alloc: Global, script: &[u8]) -> Result<Vec<u8>, EditError>
     ensures text { IfOk result (λ text. text.items ≡ output_of script.now) }
     ensures only { IsOkUnless result NoMemory }
-    ensures sound { OnOk result (SoundThrough (lines_of script.now) start) }
+    ensures sound { OnOk result (SoundThrough (commands_of (lines_of script.now)) start) }
 {
     let mut session = Session::new(alloc)?;
     session.run_lines(script)?;

@@ -2,7 +2,7 @@ ghost use Rattle.std.specs.Prelude.{◌≡◌, ◌≢◌, ◌↔◌, ◌+◌, �
 ghost use Rattle.std.specs.Io.KnownBytes.{append_known};
 ghost use Rattle.script_ends.specs.Faults.{Rose};
 ghost use Rattle.script_ends.specs.Took.{TookAtMost, AddedFront};
-ghost use Rattle.script_runs.specs.Script.{lines_of, output_of, start};
+ghost use Rattle.script_runs.specs.Script.{commands_of, lines_of, output_of, start};
 ghost use Rattle.script_runs.specs.Session.{SoundThrough};
 ghost use Rattle.script_runs.specs.Run.{Ran};
 
@@ -28,10 +28,11 @@ pub fn run_script<S: Source, K: Sink>(
         × (K.taken output.new ≡ append_known (K.taken output.old) (output_of script)))) }
     // Over any ends.
     ensures ran { OnOk result (Ran MOST_BYTES (S.left input.old) (S.left input.new) (K.taken output.old) (K.taken output.new)) }
-    // In every state that the lines go through, undo and redo lead to the kept workbooks, and what was
-    // sent since the last sync leads from the workbook at that sync to the present one. What a sync
-    // writes are the bytes of a queue, which decoding them gives again.
-    ensures sound { OnOk result (IfSome (S.left input.old) (λ script. SoundThrough (lines_of script) start)) }
+    // In every state that the commands of the lines go through, those that are drawn among them, undo and
+    // redo lead to the kept workbooks, no command is refused as a diff is, and the bytes of what was sent
+    // since the last sync carry the workbook at that sync to the present one. What a sync sends is a
+    // queue that bytes can spell, so decoding them gives it again.
+    ensures sound { OnOk result (IfSome (S.left input.old) (λ script. SoundThrough (commands_of (lines_of script)) start)) }
 
     ensures read_fault { result ≡ Err RunError.ReadFault → Rose (S.faults input.old) (S.faults input.new) }
     ensures write_fault { result ≡ Err RunError.WriteFault → Rose (K.faults output.old) (K.faults output.new) }
@@ -76,7 +77,7 @@ pub fn run_script_surely(
         × (⟦<SureSink as Sink>⟧.taken output.new ≡ append_known (⟦<SureSink as Sink>⟧.taken output.old) (output_of script)))) }
     ensures ran { OnOk result (Ran MOST_BYTES (⟦<SureSource as Source>⟧.left input.old) (⟦<SureSource as Source>⟧.left input.new)
         (⟦<SureSink as Sink>⟧.taken output.old) (⟦<SureSink as Sink>⟧.taken output.new)) }
-    ensures sound { OnOk result (IfSome (⟦<SureSource as Source>⟧.left input.old) (λ script. SoundThrough (lines_of script) start)) }
+    ensures sound { OnOk result (IfSome (⟦<SureSource as Source>⟧.left input.old) (λ script. SoundThrough (commands_of (lines_of script)) start)) }
 
     ensures no_read_fault { result ≢ Err RunError.ReadFault }
     ensures no_write_fault { result ≢ Err RunError.WriteFault }

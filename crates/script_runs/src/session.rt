@@ -1,13 +1,14 @@
-ghost use Rattle.std.specs.Prelude.{◌≡◌, ◌≢◌, ◌++◌, [], true, codes, string_bytes, OnOk, OnErr, IfOk, IfErr, IsOkUnless};
+ghost use Rattle.std.specs.Prelude.{◌≡◌, ◌≢◌, ◌++◌, ◌+◌, ◌-◌, ◌^◌, ◌<◌, ◌≤◌, [], true, string_bytes, OnOk, OnErr, IfOk, IfErr, IsOkUnless};
 ghost use Rattle.base_values.specs.Answers.{map_ok};
 ghost use Rattle.base_values.specs.declared.EditError.TheVariants.{NoMemory};
 ghost use Rattle.formula_tree.specs.Numbers as tree;
 ghost use Rattle.format_rules.specs.Canonical.{has_canonical_numbers};
-ghost use Rattle.script_dump.specs.Text.{line, hex};
-ghost use Rattle.script_runs.specs.Script.{refusal, outcome, plain_rule, rule_typed, value_line, start};
+ghost use Rattle.script_runs.specs.Script.{refusal, outcome, plain_rule, reply_text, rule_typed, value_reply, start};
+ghost use Rattle.script_runs.specs.Script.Reply.{Sent, Value};
 ghost use Rattle.user_model.specs.Reading.{rectangle_of};
 ghost use Rattle.open_book.specs.Stands.{OnStates, StandsFor, Turns};
 
+use crate::tally::{Tally, push_made};
 use base_axis::Area;
 use base_shared::Shared;
 use base_styles::{Style, Theme};
@@ -17,8 +18,8 @@ use formula_tree::Node;
 use script_dump::{push_dump, push_hex, push_line};
 use script_lines::{
     Command, NamedArea, NamedCell, NamedColor, NamedCount, NamedFill, NamedGrid, NamedLines,
-    NamedMove, NamedRule, NamedSheetMove, NamedSize, NamedSpan, NamedSwap, push_escaped,
-    read_command, split_first, without_return,
+    NamedMove, NamedRule, NamedRun, NamedSheetMove, NamedSize, NamedSpan, NamedSwap, drawn_command,
+    push_escaped, read_command, split_first, without_return,
 };
 use std::alloc::Global;
 use user_model::{ClearAll, UserModel};
@@ -47,7 +48,7 @@ fn push_refusal(out: &mut Vec<u8>, error: EditError) -> Result<(), EditError>
 
 /// Writes the answer to an edit. Being out of memory has none.
 fn push_outcome(out: &mut Vec<u8>, done: Result<(), EditError>) -> Result<(), EditError>
-    ensures text { OnOk result (out.new.items ≡ out.old.items ++ outcome done) }
+    ensures text { OnOk result (out.new.items ≡ out.old.items ++ reply_text (outcome done)) }
     ensures memory { OnOk result (IfErr done (λ error. error ≢ NoMemory)) }
     ensures only { IsOkUnless result NoMemory }
 {
@@ -62,7 +63,7 @@ fn push_outcome(out: &mut Vec<u8>, done: Result<(), EditError>) -> Result<(), Ed
 
 /// Writes the text of a content.
 fn push_value(out: &mut Vec<u8>, text: &str) -> Result<(), EditError>
-    ensures text { OnOk result (out.new.items ≡ out.old.items ++ value_line (Ok text.now)) }
+    ensures text { OnOk result (out.new.items ≡ out.old.items ++ reply_text (Value text.now)) }
     ensures only { IsOkUnless result NoMemory }
 {
     out.extend_from_slice(b"value ")?;
@@ -73,7 +74,7 @@ fn push_value(out: &mut Vec<u8>, text: &str) -> Result<(), EditError>
 
 /// Writes the answer to a question for a content. Being out of memory has none.
 fn push_got(out: &mut Vec<u8>, found: Result<String, EditError>) -> Result<(), EditError>
-    ensures text { OnOk result (out.new.items ≡ out.old.items ++ value_line (map_ok string_bytes found)) }
+    ensures text { OnOk result (out.new.items ≡ out.old.items ++ reply_text (value_reply (map_ok string_bytes found))) }
     ensures memory { OnOk result (IfErr found (λ error. error ≢ NoMemory)) }
     ensures only { IsOkUnless result NoMemory }
 {
@@ -85,7 +86,7 @@ fn push_got(out: &mut Vec<u8>, found: Result<String, EditError>) -> Result<(), E
 
 /// Writes the answer to a sync.
 fn push_sync(out: &mut Vec<u8>, bytes: &[u8]) -> Result<(), EditError>
-    ensures text { OnOk result (out.new.items ≡ out.old.items ++ line (codes "sync " ++ hex bytes.now)) }
+    ensures text { OnOk result (out.new.items ≡ out.old.items ++ reply_text (Sent bytes.now)) }
     ensures only { IsOkUnless result NoMemory }
 {
     out.extend_from_slice(b"sync ")?;
@@ -161,8 +162,8 @@ impl Session {
     ghost use Rattle.script_lines.specs.Commands.{command_of};
     ghost use Rattle.script_lines.specs.declared.Command.TheVariants as command;
     ghost use Rattle.open_book.specs.Machine.{State};
-    ghost use Rattle.script_runs.specs.Script.{line_reply, line_next, lines_of, replies, after};
-    ghost use Rattle.script_runs.specs.Session.{SessionStands, Runs, RunsCommand, LineSends, SoundThrough};
+    ghost use Rattle.script_runs.specs.Script.{line_reply, lines_of, commands_on, commands_of, replies, after};
+    ghost use Rattle.script_runs.specs.Session.{SessionStands, HasNoStale, Runs, RunsPlain, RunsCommand, CountsCommand, SoundThrough};
 
     /// A new workbook, a second copy equal to it, and no answer yet.
     pub(crate) fn new(alloc: Global) -> Result<Session, EditError>
@@ -179,7 +180,7 @@ impl Session {
     }
 
     fn set(&mut self, cell: NamedCell, text: &str) -> Result<(), EditError>
-        ensures { RunsCommand (command.Set cell text.now) result self.old self.new }
+        ensures { RunsPlain (command.Set cell text.now) result self.old self.new }
     {
         let done = self
             .model
@@ -188,7 +189,7 @@ impl Session {
     }
 
     fn array(&mut self, named: NamedArea, text: &str) -> Result<(), EditError>
-        ensures { RunsCommand (command.Array named text.now) result self.old self.new }
+        ensures { RunsPlain (command.Array named text.now) result self.old self.new }
     {
         let area = named.area;
         let done = self.model.set_user_array_formula(
@@ -203,7 +204,7 @@ impl Session {
     }
 
     fn get(&mut self, cell: NamedCell) -> Result<(), EditError>
-        ensures { RunsCommand (command.Get cell) result self.old self.new }
+        ensures { RunsPlain (command.Get cell) result self.old self.new }
     {
         let found = self
             .model
@@ -212,7 +213,7 @@ impl Session {
     }
 
     fn link(&mut self, cell: NamedCell, target: &str) -> Result<(), EditError>
-        ensures { RunsCommand (command.Link cell target.now) result self.old self.new }
+        ensures { RunsPlain (command.Link cell target.now) result self.old self.new }
     {
         let done = self
             .model
@@ -221,7 +222,7 @@ impl Session {
     }
 
     fn unlink(&mut self, cell: NamedCell) -> Result<(), EditError>
-        ensures { RunsCommand (command.Unlink cell) result self.old self.new }
+        ensures { RunsPlain (command.Unlink cell) result self.old self.new }
     {
         let done = self
             .model
@@ -230,21 +231,21 @@ impl Session {
     }
 
     fn merge(&mut self, named: NamedArea) -> Result<(), EditError>
-        ensures { RunsCommand (command.Merge named) result self.old self.new }
+        ensures { RunsPlain (command.Merge named) result self.old self.new }
     {
         let done = self.model.merge_cells(&area_of(named));
         push_outcome(&mut self.out, done)
     }
 
     fn unmerge(&mut self, cell: NamedCell) -> Result<(), EditError>
-        ensures { RunsCommand (command.Unmerge cell) result self.old self.new }
+        ensures { RunsPlain (command.Unmerge cell) result self.old self.new }
     {
         let done = self.model.unmerge_cells(cell.sheet, cell.row, cell.column);
         push_outcome(&mut self.out, done)
     }
 
     fn insert_rows(&mut self, lines: NamedLines) -> Result<(), EditError>
-        ensures { RunsCommand (command.InsertRows lines) result self.old self.new }
+        ensures { RunsPlain (command.InsertRows lines) result self.old self.new }
     {
         let done = self
             .model
@@ -253,7 +254,7 @@ impl Session {
     }
 
     fn insert_columns(&mut self, lines: NamedLines) -> Result<(), EditError>
-        ensures { RunsCommand (command.InsertColumns lines) result self.old self.new }
+        ensures { RunsPlain (command.InsertColumns lines) result self.old self.new }
     {
         let done = self
             .model
@@ -262,7 +263,7 @@ impl Session {
     }
 
     fn delete_rows(&mut self, lines: NamedLines) -> Result<(), EditError>
-        ensures { RunsCommand (command.DeleteRows lines) result self.old self.new }
+        ensures { RunsPlain (command.DeleteRows lines) result self.old self.new }
     {
         let done = self
             .model
@@ -271,7 +272,7 @@ impl Session {
     }
 
     fn delete_columns(&mut self, lines: NamedLines) -> Result<(), EditError>
-        ensures { RunsCommand (command.DeleteColumns lines) result self.old self.new }
+        ensures { RunsPlain (command.DeleteColumns lines) result self.old self.new }
     {
         let done = self
             .model
@@ -280,7 +281,7 @@ impl Session {
     }
 
     fn move_rows(&mut self, moved: NamedMove) -> Result<(), EditError>
-        ensures { RunsCommand (command.MoveRows moved) result self.old self.new }
+        ensures { RunsPlain (command.MoveRows moved) result self.old self.new }
     {
         let done = self
             .model
@@ -289,7 +290,7 @@ impl Session {
     }
 
     fn move_columns(&mut self, moved: NamedMove) -> Result<(), EditError>
-        ensures { RunsCommand (command.MoveColumns moved) result self.old self.new }
+        ensures { RunsPlain (command.MoveColumns moved) result self.old self.new }
     {
         let done = self
             .model
@@ -298,7 +299,7 @@ impl Session {
     }
 
     fn width(&mut self, named: NamedSize) -> Result<(), EditError>
-        ensures { RunsCommand (command.Width named) result self.old self.new }
+        ensures { RunsPlain (command.Width named) result self.old self.new }
     {
         let done = self
             .model
@@ -307,7 +308,7 @@ impl Session {
     }
 
     fn height(&mut self, named: NamedSize) -> Result<(), EditError>
-        ensures { RunsCommand (command.Height named) result self.old self.new }
+        ensures { RunsPlain (command.Height named) result self.old self.new }
     {
         let done = self
             .model
@@ -316,7 +317,7 @@ impl Session {
     }
 
     fn fill_rows(&mut self, named: NamedFill) -> Result<(), EditError>
-        ensures { RunsCommand (command.FillRows named) result self.old self.new }
+        ensures { RunsPlain (command.FillRows named) result self.old self.new }
     {
         let source = fill_source(named);
         let done = self.model.auto_fill_rows(&source, named.to);
@@ -324,7 +325,7 @@ impl Session {
     }
 
     fn fill_columns(&mut self, named: NamedFill) -> Result<(), EditError>
-        ensures { RunsCommand (command.FillColumns named) result self.old self.new }
+        ensures { RunsPlain (command.FillColumns named) result self.old self.new }
     {
         let source = fill_source(named);
         let done = self.model.auto_fill_columns(&source, named.to);
@@ -332,7 +333,7 @@ impl Session {
     }
 
     fn hide_rows(&mut self, span: NamedSpan) -> Result<(), EditError>
-        ensures { RunsCommand (command.HideRows span) result self.old self.new }
+        ensures { RunsPlain (command.HideRows span) result self.old self.new }
     {
         let done = self
             .model
@@ -341,7 +342,7 @@ impl Session {
     }
 
     fn hide_columns(&mut self, span: NamedSpan) -> Result<(), EditError>
-        ensures { RunsCommand (command.HideColumns span) result self.old self.new }
+        ensures { RunsPlain (command.HideColumns span) result self.old self.new }
     {
         let done = self
             .model
@@ -350,7 +351,7 @@ impl Session {
     }
 
     fn show_rows(&mut self, span: NamedSpan) -> Result<(), EditError>
-        ensures { RunsCommand (command.ShowRows span) result self.old self.new }
+        ensures { RunsPlain (command.ShowRows span) result self.old self.new }
     {
         let done = self
             .model
@@ -359,7 +360,7 @@ impl Session {
     }
 
     fn show_columns(&mut self, span: NamedSpan) -> Result<(), EditError>
-        ensures { RunsCommand (command.ShowColumns span) result self.old self.new }
+        ensures { RunsPlain (command.ShowColumns span) result self.old self.new }
     {
         let done = self
             .model
@@ -368,14 +369,14 @@ impl Session {
     }
 
     fn freeze_rows(&mut self, named: NamedCount) -> Result<(), EditError>
-        ensures { RunsCommand (command.FreezeRows named) result self.old self.new }
+        ensures { RunsPlain (command.FreezeRows named) result self.old self.new }
     {
         let done = self.model.set_frozen_rows_count(named.sheet, named.count);
         push_outcome(&mut self.out, done)
     }
 
     fn freeze_columns(&mut self, named: NamedCount) -> Result<(), EditError>
-        ensures { RunsCommand (command.FreezeColumns named) result self.old self.new }
+        ensures { RunsPlain (command.FreezeColumns named) result self.old self.new }
     {
         let done = self
             .model
@@ -384,42 +385,42 @@ impl Session {
     }
 
     fn new_sheet(&mut self) -> Result<(), EditError>
-        ensures { RunsCommand command.NewSheet result self.old self.new }
+        ensures { RunsPlain command.NewSheet result self.old self.new }
     {
         let done = self.model.new_sheet();
         push_outcome(&mut self.out, done)
     }
 
     fn duplicate_sheet(&mut self, sheet: u32) -> Result<(), EditError>
-        ensures { RunsCommand (command.DuplicateSheet sheet) result self.old self.new }
+        ensures { RunsPlain (command.DuplicateSheet sheet) result self.old self.new }
     {
         let done = self.model.duplicate_sheet(sheet);
         push_outcome(&mut self.out, done)
     }
 
     fn delete_sheet(&mut self, sheet: u32) -> Result<(), EditError>
-        ensures { RunsCommand (command.DeleteSheet sheet) result self.old self.new }
+        ensures { RunsPlain (command.DeleteSheet sheet) result self.old self.new }
     {
         let done = self.model.delete_sheet(sheet);
         push_outcome(&mut self.out, done)
     }
 
     fn move_sheet(&mut self, moved: NamedSheetMove) -> Result<(), EditError>
-        ensures { RunsCommand (command.MoveSheet moved) result self.old self.new }
+        ensures { RunsPlain (command.MoveSheet moved) result self.old self.new }
     {
         let done = self.model.move_sheet(moved.from, moved.to);
         push_outcome(&mut self.out, done)
     }
 
     fn rename_sheet(&mut self, sheet: u32, name: &str) -> Result<(), EditError>
-        ensures { RunsCommand (command.RenameSheet sheet name.now) result self.old self.new }
+        ensures { RunsPlain (command.RenameSheet sheet name.now) result self.old self.new }
     {
         let done = self.model.rename_sheet(sheet, name);
         push_outcome(&mut self.out, done)
     }
 
     fn name(&mut self, scope: Option<u32>, name: &str, text: &str) -> Result<(), EditError>
-        ensures { RunsCommand (command.Name (record { scope = scope; name = name.now }) text.now) result self.old self.new }
+        ensures { RunsPlain (command.Name (record { scope = scope; name = name.now }) text.now) result self.old self.new }
     {
         let done = self.model.new_defined_name(name, scope, text);
         push_outcome(&mut self.out, done)
@@ -433,7 +434,7 @@ impl Session {
         new_name: &str,
         text: &str,
     ) -> Result<(), EditError>
-        ensures { RunsCommand (command.NameUpdate (record {
+        ensures { RunsPlain (command.NameUpdate (record {
           old = record { scope = scope; name = name.now };
           new = record { scope = new_scope; name = new_name.now };
         }) text.now) result self.old self.new }
@@ -445,84 +446,84 @@ impl Session {
     }
 
     fn name_delete(&mut self, scope: Option<u32>, name: &str) -> Result<(), EditError>
-        ensures { RunsCommand (command.NameDelete (record { scope = scope; name = name.now })) result self.old self.new }
+        ensures { RunsPlain (command.NameDelete (record { scope = scope; name = name.now })) result self.old self.new }
     {
         let done = self.model.delete_defined_name(name, scope);
         push_outcome(&mut self.out, done)
     }
 
     fn hide_sheet(&mut self, sheet: u32) -> Result<(), EditError>
-        ensures { RunsCommand (command.HideSheet sheet) result self.old self.new }
+        ensures { RunsPlain (command.HideSheet sheet) result self.old self.new }
     {
         let done = self.model.hide_sheet(sheet);
         push_outcome(&mut self.out, done)
     }
 
     fn unhide_sheet(&mut self, sheet: u32) -> Result<(), EditError>
-        ensures { RunsCommand (command.UnhideSheet sheet) result self.old self.new }
+        ensures { RunsPlain (command.UnhideSheet sheet) result self.old self.new }
     {
         let done = self.model.unhide_sheet(sheet);
         push_outcome(&mut self.out, done)
     }
 
     fn color(&mut self, named: NamedColor) -> Result<(), EditError>
-        ensures { RunsCommand (command.SheetColor named) result self.old self.new }
+        ensures { RunsPlain (command.SheetColor named) result self.old self.new }
     {
         let done = self.model.set_sheet_color(named.sheet, &named.color);
         push_outcome(&mut self.out, done)
     }
 
     fn grid(&mut self, named: NamedGrid) -> Result<(), EditError>
-        ensures { RunsCommand (command.GridLines named) result self.old self.new }
+        ensures { RunsPlain (command.GridLines named) result self.old self.new }
     {
         let done = self.model.set_show_grid_lines(named.sheet, named.show);
         push_outcome(&mut self.out, done)
     }
 
     fn title(&mut self, name: &str) -> Result<(), EditError>
-        ensures { RunsCommand (command.Title name.now) result self.old self.new }
+        ensures { RunsPlain (command.Title name.now) result self.old self.new }
     {
         let done = self.model.set_name(name);
         push_outcome(&mut self.out, done)
     }
 
     fn theme(&mut self, theme: Theme) -> Result<(), EditError>
-        ensures { RunsCommand (command.ThemeColors theme) result self.old self.new }
+        ensures { RunsPlain (command.ThemeColors theme) result self.old self.new }
     {
         let done = self.model.set_theme(&theme);
         push_outcome(&mut self.out, done)
     }
 
     fn locale(&mut self, name: &str) -> Result<(), EditError>
-        ensures { RunsCommand (command.Locale name.now) result self.old self.new }
+        ensures { RunsPlain (command.Locale name.now) result self.old self.new }
     {
         let done = self.model.set_locale(name);
         push_outcome(&mut self.out, done)
     }
 
     fn zone(&mut self, name: &str) -> Result<(), EditError>
-        ensures { RunsCommand (command.Zone name.now) result self.old self.new }
+        ensures { RunsPlain (command.Zone name.now) result self.old self.new }
     {
         let done = self.model.set_timezone(name);
         push_outcome(&mut self.out, done)
     }
 
     fn language(&mut self, name: &str) -> Result<(), EditError>
-        ensures { RunsCommand (command.Language name.now) result self.old self.new }
+        ensures { RunsPlain (command.Language name.now) result self.old self.new }
     {
         let done = self.model.set_language(name);
         push_outcome(&mut self.out, done)
     }
 
     fn undo(&mut self) -> Result<(), EditError>
-        ensures { RunsCommand command.Undo result self.old self.new }
+        ensures { RunsPlain command.Undo result self.old self.new }
     {
         let done = self.model.undo();
         push_outcome(&mut self.out, done)
     }
 
     fn redo(&mut self) -> Result<(), EditError>
-        ensures { RunsCommand command.Redo result self.old self.new }
+        ensures { RunsPlain command.Redo result self.old self.new }
     {
         let done = self.model.redo();
         push_outcome(&mut self.out, done)
@@ -530,7 +531,7 @@ impl Session {
 
     /// Writes the bytes of what was done since the last sync, and takes the second copy along them.
     fn sync(&mut self) -> Result<(), EditError>
-        ensures { RunsCommand command.Sync result self.old self.new }
+        ensures { RunsPlain command.Sync result self.old self.new }
     {
         let bytes = self.model.flush_send_queue()?;
         push_sync(&mut self.out, &bytes)?;
@@ -538,48 +539,48 @@ impl Session {
     }
 
     fn show(&mut self) -> Result<(), EditError>
-        ensures { RunsCommand command.Show result self.old self.new }
+        ensures { RunsPlain command.Show result self.old self.new }
     {
         push_dump(self.alloc, &mut self.out, self.model.get_model())
     }
 
     fn style(&mut self, named: NamedArea, path: &str, value: &str) -> Result<(), EditError>
-        ensures { RunsCommand (command.Style (record { area = named; path = path.now }) value.now) result self.old self.new }
+        ensures { RunsPlain (command.Style (record { area = named; path = path.now }) value.now) result self.old self.new }
     {
         let done = self.model.update_range_style(&area_of(named), path, value);
         push_outcome(&mut self.out, done)
     }
 
     fn clear(&mut self, named: NamedArea) -> Result<(), EditError>
-        ensures { RunsCommand (command.Clear named) result self.old self.new }
+        ensures { RunsPlain (command.Clear named) result self.old self.new }
     {
         let done = self.model.range_clear_all(&area_of(named));
         push_outcome(&mut self.out, done)
     }
 
     fn clear_contents(&mut self, named: NamedArea) -> Result<(), EditError>
-        ensures { RunsCommand (command.ClearContents named) result self.old self.new }
+        ensures { RunsPlain (command.ClearContents named) result self.old self.new }
     {
         let done = self.model.range_clear_contents(&area_of(named));
         push_outcome(&mut self.out, done)
     }
 
     fn clear_formatting(&mut self, named: NamedArea) -> Result<(), EditError>
-        ensures { RunsCommand (command.ClearFormatting named) result self.old self.new }
+        ensures { RunsPlain (command.ClearFormatting named) result self.old self.new }
     {
         let done = self.model.range_clear_formatting(&area_of(named));
         push_outcome(&mut self.out, done)
     }
 
     fn rule(&mut self, named: NamedArea, text: &str) -> Result<(), EditError>
-        ensures { RunsCommand (command.Rule named text.now) result self.old self.new }
+        ensures { RunsPlain (command.Rule named text.now) result self.old self.new }
     {
         let done = add_rule(self.alloc, &mut self.model, named, text);
         push_outcome(&mut self.out, done)
     }
 
     fn rule_delete(&mut self, named: NamedRule) -> Result<(), EditError>
-        ensures { RunsCommand (command.RuleDelete named) result self.old self.new }
+        ensures { RunsPlain (command.RuleDelete named) result self.old self.new }
     {
         let done = self
             .model
@@ -588,7 +589,7 @@ impl Session {
     }
 
     fn rule_swap(&mut self, named: NamedSwap) -> Result<(), EditError>
-        ensures { RunsCommand (command.RuleSwap named) result self.old self.new }
+        ensures { RunsPlain (command.RuleSwap named) result self.old self.new }
     {
         let done = self
             .model
@@ -600,8 +601,9 @@ impl Session {
         push_outcome(&mut self.out, done)
     }
 
-    fn run_command(&mut self, command: Command) -> Result<(), EditError>
-        ensures { RunsCommand command result self.old self.new }
+    /// Runs a command that draws no others.
+    fn run_plain(&mut self, command: Command) -> Result<(), EditError>
+        ensures { RunsPlain command result self.old self.new }
     {
         match command {
             Command::Set(cell, text) => self.set(cell, text.as_str()),
@@ -665,12 +667,53 @@ impl Session {
             Command::Rule(named, text) => self.rule(named, text.as_str()),
             Command::RuleDelete(named) => self.rule_delete(named),
             Command::RuleSwap(named) => self.rule_swap(named),
+            Command::Make(_) => Ok(()),
         }
     }
 
+    /// Runs a command that draws no others, counts its answer, and takes the answer back.
+    fn count_command(&mut self, command: Command, tally: &mut Tally) -> Result<(), EditError>
+        requires { tally.old.ok + tally.old.error + tally.old.sync < 2 ^ 32 - 1 }
+        ensures counts { CountsCommand command result self.old self.new tally.old tally.new }
+        ensures more { OnOk result (tally.new.ok + tally.new.error + tally.new.sync ≤ tally.old.ok + tally.old.error + tally.old.sync + 1) }
+        ensures only { IsOkUnless result NoMemory }
+    {
+        let before = self.out.len();
+        self.run_plain(command)?;
+        tally.count(self.out.get(before).copied());
+        self.out.truncate(before);
+        Ok(())
+    }
+
+    /// Runs the commands that are drawn from a seed, and answers how theirs answers count.
+    fn make(&mut self, run: NamedRun) -> Result<(), EditError>
+        ensures { RunsCommand (command.Make run) result self.old self.new }
+    {
+        let mut tally = Tally::none();
+        let mut seed = run.seed;
+        let mut left = run.count;
+        'draws: while left > 0 {
+            let (command, next) = drawn_command(self.alloc, seed)?;
+            self.count_command(command, &mut tally)?;
+            seed = next;
+            left -= 1;
+        }
+        push_made(self.alloc, &mut self.out, run.count, tally)?;
+        Ok(())
+    }
+
+    fn run_command(&mut self, command: Command) -> Result<(), EditError>
+        ensures { RunsCommand command result self.old self.new }
+    {
+        if let Command::Make(run) = command {
+            return self.make(run);
+        }
+        self.run_plain(command)
+    }
+
     fn run_line(&mut self, line: &[u8]) -> Result<(), EditError>
-        ensures { (state : State) → SessionStands self.old state →
-            Runs result self.old self.new (line_reply line.now state) (line_next line.now state) (OnOk result (LineSends line.now state)) }
+        ensures { (state : State) → SessionStands self.old state → HasNoStale state →
+            Runs result self.old self.new (line_reply line.now state) (after (commands_on line.now) state) (OnOk result (SoundThrough (commands_on line.now) state)) }
     {
         if line.is_empty() {
             return Ok(());
@@ -686,9 +729,9 @@ impl Session {
 
     /// Runs all lines of a script.
     pub(crate) fn run_lines(&mut self, script: &[u8]) -> Result<(), EditError>
-        ensures runs { (state : State) → SessionStands self.old state →
-            Runs result self.old self.new (replies (lines_of script.now) state) (after (lines_of script.now) state) (Unit {0}) }
-        ensures sound { (state : State) → SessionStands self.old state → OnOk result (SoundThrough (lines_of script.now) state) }
+        ensures runs { (state : State) → SessionStands self.old state → HasNoStale state →
+            Runs result self.old self.new (replies (lines_of script.now) state) (after (commands_of (lines_of script.now)) state)
+            (OnOk result (SoundThrough (commands_of (lines_of script.now)) state)) }
     {
         let mut rest = Some(script);
         'lines: while let Some(bytes) = rest {

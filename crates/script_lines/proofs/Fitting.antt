@@ -31,7 +31,7 @@ use Rattle.script_lines.proofs.EscapeLaws.{unescaped-IsUtf8}
 use Rattle.script_lines.specs.Commands.{Reader, word, sheet_word, cell_words, area_words, lines_words, move_words, sheet_move_words, rule_words, swap_words, run_words, color_words, grid_words, bit_of, scope_of, name_of, name_words, update_words, path_words, fill_words, count_words, two_parts, theme_words, ended, with_text, Table, by_table, exactly, Readers, by_reader, alone, only, only_text, and_text, cell_commands, cell_command, area_commands, area_command, fill_commands, fill_command, lines_commands, lines_command, move_commands, move_command, count_commands, count_command, sheet_commands, sheet_command, single_commands, single_command, text_commands, text_command, word_commands, word_command, place_command, line_command, from_words, command_of}
 use Rattle.script_lines.specs.declared.reference.Reference.{Reference}
 use Rattle.script_lines.specs.declared.command.Command.{Command}
-use Rattle.script_lines.specs.declared.command.Command.TheVariants.{Set, Get, Array, Link, Unlink, Merge, Unmerge, InsertRows, InsertColumns, DeleteRows, DeleteColumns, MoveRows, MoveColumns, NewSheet, DuplicateSheet, DeleteSheet, MoveSheet, RenameSheet, HideSheet, UnhideSheet, SheetColor, GridLines, Name, NameUpdate, NameDelete, Undo, Redo, Sync, Show, Width, Height, HideRows, ShowRows, HideColumns, ShowColumns, FreezeRows, FreezeColumns, Style, Clear, ClearContents, ClearFormatting, Title, ThemeColors, Locale, Zone, Language, FillRows, FillColumns, Rule, RuleDelete, RuleSwap, Make}
+use Rattle.script_lines.specs.declared.command.Command.TheVariants.{Set, Make, Array, Link, NewSheet, MoveSheet, RenameSheet, SheetColor, GridLines, Name, NameUpdate, NameDelete, Undo, Redo, Sync, Show, Style, Title, ThemeColors, Locale, Zone, Language, Rule, RuleDelete, RuleSwap}
 use Rattle.script_lines.specs.CommandFits.{IsNamed, IsNamedArea, CellFits, AreaFits, LinesFit, MoveFits, SheetFits, SheetMoveFits, IsNamedColor, ColorFits, GridFits, NameFits, PathFits, UpdateFits, CommandFits, CountFits, PartsFit, ThemeFits, FillFits, RuleFits, SwapFits, RunFits}
 
 -- ---- lists

@@ -2,8 +2,8 @@
 //! hold.
 //!
 //! The layer above writes a workbook with `push_dump`, which is `dump`, and lines, numbers and bytes
-//! of its own with `push_line`, `push_unsigned` and `push_hex`. It reads contents with `english_input` and formulas with
-//! `english_formula`, and prints contents with `push_english`.
+//! of its own with `push_line`, `push_unsigned` and `push_hex`. It reads contents with
+//! `english_input` and formulas with `english_formula`, and prints contents with `push_english`.
 #![tactic(auto)]
 
 mod dump;

@@ -46,6 +46,6 @@ abbrev pub drawn_command : ℕ → Command × ℕ
 drawn_command seed = drawn_by (draw 8 seed) (next_seed seed)
 
 -- so many commands, one after another
-pub drawn_commands : ℕ → ℕ → List Command
+abbrev pub drawn_commands : ℕ → ℕ → List Command
 drawn_commands zero seed = []
 drawn_commands (suc count) seed = (drawn_command seed).0 ∷ drawn_commands count (drawn_command seed).1

@@ -1,3 +1,4 @@
 mod actions;
+mod followers;
 mod history;
 mod rules;

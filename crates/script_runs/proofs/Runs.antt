@@ -1,8 +1,8 @@
 -- Commands one after another, and one line more of a script.
-use Rattle.std.proofs.Common.{◌≡◌, ℕ, List, [], ◌∷◌, ◌++◌, Result, Ok, Err, refl, sym, ap, subst, ◌∙◌, append_assoc}
+use Rattle.std.proofs.Common.{◌≡◌, ℕ, List, [], ◌∷◌, ◌++◌, Result, Ok, Err, refl, sym, ap, subst, ◌∙◌, append_assoc, append-nil}
 use Rattle.std.specs.Prelude.{OnOk}
 use Rattle.std.specs.declared.option.Option.{Option}
-use Rattle.std.specs.declared.option.Option.TheVariants.{Some}
+use Rattle.std.specs.declared.option.Option.TheVariants.{Some, None}
 use Rattle.base_values.specs.declared.EditError.{EditError}
 use Rattle.sheet_wire.specs.QueueBytes.{FitsQueue}
 use Rattle.script_lines.specs.Parts.{parts_at, parts_after, without_return}
@@ -11,7 +11,7 @@ use Rattle.script_lines.specs.declared.Command.TheVariants as command
 use Rattle.script_lines.specs.declared.NamedRun.{NamedRun}
 use Rattle.open_book.specs.Machine.{State}
 use Rattle.script_runs.specs.declared.session.Session.{Session}
-use Rattle.script_runs.specs.Session.{SessionStands, HasNoStale, IsOwn, OnSync, Runs, SoundThrough}
+use Rattle.script_runs.specs.Session.{SessionStands, HasNoStale, OnSync, Runs, SoundThrough}
 use Rattle.script_runs.specs.Script.{Reply, after, commands_in, commands_of, commands_on, line_reply, plain_reply, replies, reply_text, reply_to, step_next}
 use Rattle.script_runs.proofs.Own.{after_fresh, own_state, step_fresh}
 
@@ -23,7 +23,7 @@ after_append (x ∷ xs) ys s = after_append xs ys (step_next x s)
 
 sound_append : (xs ys : List Command) (s : State) → SoundThrough xs s → SoundThrough ys (after xs s) → SoundThrough (xs ++ ys) s
 sound_append [] ys s one other = other
-sound_append (x ∷ xs) ys s one other = (one.0, one.1.0, sound_append xs ys (step_next x s) one.1.1 other)
+sound_append (x ∷ xs) ys s one other = (one.0, one.1, sound_append xs ys (step_next x s) one.2 other)
 
 -- a command that draws none stands for itself
 stands_alone : (asked : Command) → ((run : NamedRun) → asked ≡ command.Make run → ⊥) → (commands_in asked ≡ asked ∷ []) × ((s : State) → reply_to asked s ≡ plain_reply asked s)
@@ -75,3 +75,13 @@ reached_more out script first old new bytes line rest reached parts told stands 
       left = sym (after_append here others s) ∙ ap (λ ls. after (commands_of ls) s) (sym parts) ∙ reached.left;
       sound = λ rest_sound. reached.sound (subst (λ ls. SoundThrough (commands_of ls) s) (sym parts) (sound_append here others s sound rest_sound));
     }
+
+-- where none is left, the lines have run
+pub reached_end : (script : List ℕ) (first : State) (old now : Session) → Reached old.out.items script first now None
+    → Runs (Ok (tt {0})) old now (replies (parts_at 10 script) first) (after (commands_of (parts_at 10 script)) first) (SoundThrough (commands_of (parts_at 10 script)) first)
+reached_end script first old now reached = record {
+  out = sym (append-nil now.out.items) ∙ reached.told;
+  stands = subst (λ (s : State). SessionStands now s) reached.left reached.stands;
+  only = tt;
+  sends = reached.sound (own_state now reached.state reached.stands reached.fresh);
+}

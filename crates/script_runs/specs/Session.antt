@@ -70,6 +70,7 @@ pub record Counts (result : Result (Unit {0}) EditError) (old new : Session) (be
   pub stands : OnOk result (SessionStands new (step_next command s))
   pub counts : OnOk result (now ≡ counted (plain_reply command s) before)
   pub sends : OnOk result (OnSync command (FitsQueue s.sent))
+  pub only : IsOkUnless result NoMemory
 
 abbrev pub CountsCommand : Command → Result (Unit {0}) EditError → Session → Session → Tally → Tally → Type 0
 CountsCommand command result old new before now = (s : State) → SessionStands old s → Counts result old new before now command s

@@ -8,7 +8,7 @@ ghost use Rattle.script_runs.specs.Script.Reply.{Sent, Value};
 ghost use Rattle.user_model.specs.Reading.{rectangle_of};
 ghost use Rattle.open_book.specs.Stands.{OnStates, StandsFor, Turns};
 
-use crate::tally::{Tally, push_made};
+use crate::tally::{Tally, byte_at, push_made};
 use base_axis::Area;
 use base_shared::Shared;
 use base_styles::{Style, Theme};
@@ -676,16 +676,15 @@ impl Session {
         requires { tally.old.ok + tally.old.error + tally.old.sync < 2 ^ 32 - 1 }
         ensures counts { CountsCommand command result self.old self.new tally.old tally.new }
         ensures more { OnOk result (tally.new.ok + tally.new.error + tally.new.sync ≤ tally.old.ok + tally.old.error + tally.old.sync + 1) }
-        ensures only { IsOkUnless result NoMemory }
     {
-        let before = self.out.len();
+        let before = self.out.as_slice().len();
         self.run_plain(command)?;
-        tally.count(self.out.get(before).copied());
+        tally.count(byte_at(&self.out, before));
         self.out.truncate(before);
         Ok(())
     }
 
-    /// Runs the commands that are drawn from a seed, and answers how theirs answers count.
+    /// Runs the commands that are drawn from a seed, and answers how their answers count.
     fn make(&mut self, run: NamedRun) -> Result<(), EditError>
         ensures { RunsCommand (command.Make run) result self.old self.new }
     {
@@ -729,7 +728,7 @@ impl Session {
 
     /// Runs all lines of a script.
     pub(crate) fn run_lines(&mut self, script: &[u8]) -> Result<(), EditError>
-        ensures runs { (state : State) → SessionStands self.old state → HasNoStale state →
+        ensures { (state : State) → SessionStands self.old state → HasNoStale state →
             Runs result self.old self.new (replies (lines_of script.now) state) (after (commands_of (lines_of script.now)) state)
             (OnOk result (SoundThrough (commands_of (lines_of script.now)) state)) }
     {

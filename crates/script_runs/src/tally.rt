@@ -1,4 +1,4 @@
-ghost use Rattle.std.specs.Prelude.{◌≡◌, ◌≤◌, ◌<◌, ◌+◌, ◌-◌, ◌^◌, ◌++◌, OnOk};
+ghost use Rattle.std.specs.Prelude.{◌≡◌, ◌≤◌, ◌<◌, ◌+◌, ◌-◌, ◌^◌, ◌++◌, slice_get, OnOk};
 ghost use Rattle.script_runs.specs.Script.{no_answers, number_text, reply_text};
 ghost use Rattle.script_runs.specs.Script.Reply.{Made};
 ghost use Rattle.script_runs.specs.Tallies.{counted_by};
@@ -39,6 +39,13 @@ impl Tally {
             _ => {}
         }
     }
+}
+
+/// The byte at a place, if there is one.
+pub(crate) fn byte_at(bytes: &[u8], at: usize) -> Option<u8>
+    ensures { result ≡ slice_get bytes.now at }
+{
+    bytes.get(at).copied()
 }
 
 fn push_number(alloc: Global, out: &mut Vec<u8>, word: &[u8], number: u32) -> Result<(), AllocError>

@@ -5,7 +5,7 @@ use Rattle.script_runs.proofs.output.output_text.Goals as goal
 
 pub returns-in_err-run_lines-clause-only : goal.returns-in_err-run_lines-clause-only
 returns-in_err-run_lines-clause-only c =
-    let ran = (c.in_err-run_lines.ensures {u = _}).runs start (c.in_ok-session.ensures {u = _}).stands in
+    let ran = c.in_err-run_lines.ensures start (c.in_ok-session.ensures {u = _}).stands (refl, refl) in
     let p = err_from_is_err_and c.from_residual-in_err-run_lines.result c.from_residual-in_err-run_lines.ensures.1 in
     rw (p.1, p.2) ran.only
 

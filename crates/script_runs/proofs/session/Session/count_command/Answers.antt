@@ -18,7 +18,7 @@ returns-clause-counts c = λ s stands.
     let before = c.args.self.now.out.items in
     let written = c.run_plain.new.self.out.items in
     let reply = plain_reply c.args.command s in
-    let length_is : length c.as_slice-before.result.now ≡ length before = ap length c.as_slice-before.ensures in
+    let length_is : length c.as_slice-before.result.now ≡ length before = ap length c.as_slice-before.ensures.value in
     let first : c.byte_at.result ≡ slice_get written (length before) = c.byte_at.ensures ∙ (λ i. slice_get (c.deref.ensures.value i) (length_is i)) in
     record {
       out = c.truncate.ensures.items ∙ (λ i. take (length_is i) (ran.out i)) ∙ front before (reply_text reply);

@@ -102,6 +102,11 @@ def filled(count):
     return ["set 0 A1 1", "set 0 A2 3", f"fill-rows 0 A1:A2 {count + 2}"]
 
 
+def drawn(count):
+    """Draws as many commands from a seed."""
+    return [f"make 7 {count}"]
+
+
 def printed_call(count):
     """Asks for a call of as many arguments in each form, so often."""
     return [str(count), str(ROUNDS), "0", "0"]
@@ -212,13 +217,14 @@ def main():
     print(f"  {seconds / LARGE * 1e9:.0f} ns an edit, at most {memory / LARGE:.0f} bytes a set cell in all")
     shares(seconds)
     fast_ranges = [pair(name, script)[3] for name, script in RANGES]
+    _, _, _, fast_drawn = pair("drawn commands", drawn)
     _, _, _, fast_read = pair(f"bytes of a formula, read {READS} times", long_formula)
     _, _, _, fast_print = pair("arguments printed in five forms", printed_call, PRINTER, (FEW, MANY))
     _, _, _, fast_names = pair("bound names printed for Excel", printed_names, PRINTER, (FEW, MANY))
     # (last, as the memory told above is that of the greatest run so far)
     fast_lines = line_edits(edit_times, LINE_ROUNDS, "by itself", LINE_AIM)
     fast_records = line_edits(recorded_times, RECORDED_ROUNDS, "through the user model", AIM)
-    scripts = [fast, fast_back, fast_sync, fast_set, fast_read, fast_records]
+    scripts = [fast, fast_back, fast_sync, fast_set, fast_drawn, fast_read, fast_records]
     programs = [fast_print, fast_names, fast_lines]
     sys.exit(0 if all(scripts + programs + fast_ranges) else 1)
 

@@ -6,7 +6,7 @@ use Rattle.script_lines.specs.declared.Command.{Command}
 use Rattle.script_lines.specs.declared.NamedRun.{NamedRun}
 use Rattle.script_dump.specs.Dump.{dump}
 use Rattle.open_book.specs.Machine.{State}
-use Rattle.script_runs.specs.Script.{Reply, after, counted, no_answers, plain_reply, reply_text, step_next, tallied}
+use Rattle.script_runs.specs.Script.{Reply, after, counted, no_answers, reply_text, step_next, tallied}
 use Rattle.script_runs.specs.Script.Reply.{Silence, Done, Refused, Value, Sent, Shown, Made}
 use Rattle.script_runs.specs.Session.{SessionStands, HasNoStale, Counts, SoundThrough}
 use Rattle.script_runs.specs.Tallies.{counted_by}

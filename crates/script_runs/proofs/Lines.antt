@@ -1,5 +1,5 @@
 -- A line that is not empty does what is said there, and an empty one nothing.
-use Rattle.std.proofs.Common.{◌≡◌, ℕ, List, [], ◌∷◌, true, false, Option, Result, Ok, Err, length, arith, sym, subst, append-nil}
+use Rattle.std.proofs.Common.{◌≡◌, ℕ, List, [], ◌∷◌, true, false, Option, Result, Ok, length, arith, sym, subst, append-nil}
 use Rattle.std.proofs.lemmas.Bool.Decides.{nat_tests}
 use Rattle.std.specs.Prelude.{◌==◌, OnOk}
 use Rattle.base_values.specs.declared.EditError.{EditError}

@@ -164,23 +164,24 @@ not_beyond [] i within none = omega (arith, within)
 not_beyond (x ∷ xs) zero within none = cc
 not_beyond (x ∷ xs) (suc i) within none = not_beyond xs i (omega (arith, within)) none
 
+-- what styles make of a rectangle, tiled from the first place of another one
+abbrev pasted_plan : MergedCell → List (List Style) → Sheet → MergedCell → SheetPlan
+pasted_plan r styles sheet area = style_plan (tiled_range area) (tiles styles (anchor_place r)) sheet
+
 -- over the sheet at an index that is there, because they are no tile, or the rectangle is empty or reaches outside
 pub paste_refusals : (index : ℕ) (r : MergedCell) (styles : List (List Style)) (book : Book) (error : EditError) → index < length book.worksheets
     → styles_pasted index r styles book ≡ Err error → IsPasteRefusal error
 unfolding styles_pasted planned_styles
 paste_refusals index r styles book error there is = shaped (is_tile styles) is
   where
-    abbrev plan : Sheet → MergedCell → SheetPlan
-    plan sheet area = style_plan (tiled_range area) (tiles styles (anchor_place r)) sheet
-
     planned : (sheet : Sheet) (b : Bool) → all_accept (tiled_range r) (λ place style. true) sheet ≡ b
-        → map_ok (with_sheet book index) (planned_in sheet (cond b (Ok (plan sheet r)) (Err StyleValue))) ≡ Err error → ⊥
+        → map_ok (with_sheet book index) (planned_in sheet (cond b (Ok (pasted_plan r styles sheet r)) (Err StyleValue))) ≡ Err error → ⊥
     planned sheet true is e = cc
     planned sheet false is e = true≢false (sym (all_taken (tiled_range r) sheet) ∙ is)
 
     inside : (sheet : Sheet) (b : Bool)
         → map_ok (with_sheet book index)
-        (and_then (cond b (Ok r) (Err InvalidArea)) (λ area. planned_in sheet (cond (all_accept (tiled_range area) (λ place style. true) sheet) (Ok (plan sheet area)) (Err StyleValue)))) ≡ Err error
+        (and_then (cond b (Ok r) (Err InvalidArea)) (λ area. planned_in sheet (cond (all_accept (tiled_range area) (λ place style. true) sheet) (Ok (pasted_plan r styles sheet area)) (Err StyleValue)))) ≡ Err error
         → IsPasteRefusal error
     inside sheet true e = absurd (planned sheet (all_accept (tiled_range r) (λ place style. true) sheet) refl e)
     inside sheet false e = let same : error ≡ InvalidArea = cc in inr same

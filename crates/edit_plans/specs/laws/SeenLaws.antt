@@ -1,6 +1,6 @@
 -- The rectangle that an edit asks for lies inside the sheet, where the edit is not refused and the one that was viewed lies inside.
 use Rattle.std.proofs.Common.{◌≡◌, ℕ, ℤ, pos, ◌+ℤ◌, ◌-ℤ◌, ◌≤ℤ◌, ◌<◌, Bool, true, false, cond, List, length, Result, Ok, Err, refl, ap, sym, ◌∙◌, arith}
-use Rattle.std.specs.Prelude.{◌==◌, ◌&&◌, int_le}
+use Rattle.std.specs.Prelude.{◌==◌, ◌&&◌, int_le, nat_lt}
 use Rattle.std.proofs.lemmas.Int.{ints}
 use Rattle.std.proofs.lemmas.Bool.Decides.{nat_tests}
 use Rattle.base_values.specs.declared.EditError.{EditError}
@@ -132,7 +132,9 @@ asked_inside _ book later view is inside = inside
 
 some : (sheets : List Sheet) → are_sheets sheets ≡ true → 0 < length sheets
 unfolding are_sheets
-some sheets h = let is = (both _ _ (both _ _ (both _ _ h).0).0).0 in grind (arith, nat_tests, is)
+some sheets h =
+    let is : nat_lt 0 (length sheets) ≡ true = (both (nat_lt 0 (length sheets)) _ (both _ _ (both _ _ h).0).0).0 in
+    grind (arith, nat_tests, is)
 
 -- a well-formed workbook has a sheet
 pub some_sheet : (book : Book) → IsWellFormed book → 0 < length book.worksheets

@@ -14,6 +14,7 @@ use Rattle.sheet_history.specs.declared.QueueDiffs.{QueueDiffs}
 use Rattle.sheet_history.specs.Diffs.{replayed}
 use Rattle.sheet_wire.specs.QueueBytes.{IsKnownQueue, FitsQueue, spell_queue}
 use Rattle.sheet_views.specs.declared.View.{View}
+use Rattle.sheet_views.specs.Chosen.{id_at}
 use Rattle.sheet_views.specs.Views.{IsViewOf, is_range, range_chosen, range_from}
 use Rattle.sheet_views.specs.laws.ViewLaws.{viewed_there}
 use Rattle.edit_plans.specs.Edits.{Edit, changed, is_of_entries, is_of_sheets, is_silent}
@@ -251,7 +252,7 @@ chosen_view index doc view is chosen = go (sheet_at doc.book index) chosen
     go (Ok sheet) e =
         let same : view_at index doc.book doc.book doc.view ≡ view = cc in
         subst (IsViewOf (length doc.book.worksheets)) same
-        (viewed_there _ doc.book.worksheets index doc.view (some_sheet doc.book (reached_rules doc is)) (reached_view doc is).inside)
+        (viewed_there (id_at doc.book.worksheets doc.view.sheet) doc.book.worksheets index doc.view (some_sheet doc.book (reached_rules doc is)) (reached_view doc is).inside)
     go (Err error) e = absurd (let never : ◌≡◌ {A = Result View EditError} (Err error) (Ok view) = e in cc)
 
 -- and that of a rectangle

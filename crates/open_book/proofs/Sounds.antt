@@ -5,7 +5,7 @@ use Rattle.std.specs.List.{AllByRecursion}
 use Rattle.base_values.specs.declared.EditError.{EditError}
 use Rattle.base_values.specs.Answers.{and_then, map_ok}
 use Rattle.base_tables.specs.declared.Language.{Language}
-use Rattle.sheet_grid.specs.Book.{Book}
+use Rattle.sheet_grid.specs.Book.{Book, ids_of}
 use Rattle.sheet_rules.specs.WellFormed.{IsWellFormed}
 use Rattle.sheet_history.specs.declared.Diff.{Diff}
 use Rattle.sheet_history.specs.declared.DiffType.{DiffType}
@@ -17,6 +17,8 @@ use Rattle.sheet_history.specs.laws.TestedLaws.{tested_rules, entry_rules}
 use Rattle.sheet_wire.specs.QueueBytes.{IsKnownEntry, spell_queue}
 use Rattle.sheet_views.specs.declared.View.{View}
 use Rattle.edit_plans.specs.Edits.{Edit, changed, is_silent}
+use Rattle.sheet_history.specs.Selection.{selection_followed}
+use Rattle.sheet_views.specs.Chosen.{id_at}
 use Rattle.sheet_views.specs.Views.{IsViewOf}
 use Rattle.sheet_views.specs.laws.ViewLaws.{viewed_there}
 use Rattle.edit_plans.specs.ViewSteps.{view_after}
@@ -80,7 +82,9 @@ module _ (s : State) (sound : IsSound s) where
 
   -- what is seen of a well-formed workbook to which a list led
   seen_followed : (kind : DiffType) (list : List Diff) (later : Book) → IsWellFormed later → IsViewOf (length later.worksheets) (seen_along kind list later s)
-  seen_followed kind list later rules = viewed_there _ later.worksheets _ s.view (some_sheet later rules) sound.seen.inside
+  seen_followed kind list later rules = 
+      viewed_there (id_at s.present.worksheets s.view.sheet) later.worksheets (selection_followed kind (ids_of s.present.worksheets) list s.view.sheet) s.view
+      (some_sheet later rules) sound.seen.inside
 
   -- a list that was followed and sent
   sound_moved : (kind : DiffType) (list : List Diff) (later : Book) (view : View) (past undone : List Step) (stale_undo stale_redo : List (List Diff))

@@ -21,6 +21,7 @@ use Rattle.sheet_history.specs.declared.LineAxis.{LineAxis}
 use Rattle.sheet_history.specs.declared.LineAxis.TheVariants.{Rows, Columns}
 use Rattle.sheet_history.specs.LineDiffs.{along_of}
 use Rattle.sheet_views.specs.declared.View.{View}
+use Rattle.sheet_views.specs.Chosen.{id_at}
 use Rattle.sheet_views.specs.Views.{IsViewOf, are_lines, is_range, is_rectangle, range_from}
 use Rattle.sheet_views.specs.laws.ViewLaws.{viewed_there}
 use Rattle.edit_plans.specs.Edits.{Edit, changed}
@@ -28,7 +29,7 @@ use Rattle.edit_plans.specs.Edits.Edit.{SetHidden, PasteStyles}
 use Rattle.edit_plans.specs.LineEdits.{attrs_in, attrs_set}
 use Rattle.edit_plans.specs.LineRecords.{lines_of, lines_set}
 use Rattle.edit_plans.specs.RangeEdits.{inside_area, is_tile, pasted_in, styles_pasted}
-use Rattle.edit_plans.specs.ViewSteps.{line_shown, view_after, view_asked, whole_line}
+use Rattle.edit_plans.specs.ViewSteps.{line_shown, selected_by, view_after, view_asked, whole_line}
 
 -- ---- the sheet of an edit that is not refused
 
@@ -143,4 +144,6 @@ some_sheet book rules = some book.worksheets (well_formed_parts book rules).shee
 -- where an edit led from one workbook to another, the view after it is one of the later workbook
 pub seen_after : (edit : Edit) (earlier later : Book) (view : View) → IsWellFormed later → changed edit earlier ≡ Ok later → is_rectangle view.range ≡ true
     → IsViewOf (length later.worksheets) (view_after edit earlier later view)
-seen_after edit earlier later view rules is inside = viewed_there _ later.worksheets _ _ (some_sheet later rules) (asked_inside edit earlier later view is inside)
+seen_after edit earlier later view rules is inside =
+    viewed_there (id_at earlier.worksheets view.sheet) later.worksheets (selected_by edit earlier view.sheet) (view_asked edit earlier view) (some_sheet later rules)
+    (asked_inside edit earlier later view is inside)

@@ -82,7 +82,7 @@ module _ (s : State) (sound : IsSound s) where
 
   -- what is seen of a well-formed workbook to which a list led
   seen_followed : (kind : DiffType) (list : List Diff) (later : Book) → IsWellFormed later → IsViewOf (length later.worksheets) (seen_along kind list later s)
-  seen_followed kind list later rules = 
+  seen_followed kind list later rules =
       viewed_there (id_at s.present.worksheets s.view.sheet) later.worksheets (selection_followed kind (ids_of s.present.worksheets) list s.view.sheet) s.view
       (some_sheet later rules) sound.seen.inside
 

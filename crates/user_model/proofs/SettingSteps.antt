@@ -37,6 +37,7 @@ module _ {A : Type 0} (found : Result A EditError) (step : A → State → Resul
 sound_spoken : (s : State) → IsSound s → (language : Language) → IsSound (record s { language = language })
 sound_spoken s sound language = record {
   present = sound.present;
+  seen = sound.seen;
   past = sound.past;
   undone = sound.undone;
   carries = sound.carries;

@@ -1,4 +1,5 @@
 mod actions;
+mod empties;
 mod followers;
 mod history;
 mod rules;

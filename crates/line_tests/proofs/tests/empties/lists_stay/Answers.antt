@@ -1,0 +1,5 @@
+use Rattle.std.proofs.Common.{sym, arith}
+use Rattle.line_tests.proofs.tests.empties.lists_stay.Goals as goal
+
+pub stays-requires-clause-lies : goal.stays-requires-clause-lies
+stays-requires-clause-lies c = rw c.empty-lists.ensures (λ k d h. absurd (omega (arith, h)))

@@ -46,15 +46,15 @@ edit_never edit s = chosen (is_silent edit s.present)
     chosen false = mapped_never (edited edit s) (changed edit s.present) (no_edit_refuses_a_diff edit s.present)
 
 locale_never : (s : State) (found : Option Locale) → Never (and_then (ok_or LocaleName found) (λ locale. locale_given locale s))
-locale_never s (Some locale) = edit_never (SetSetting (setting.Locale locale)) s
+locale_never s (Some locale) entry diff = edit_never (SetSetting (setting.Locale locale)) s entry diff
 locale_never s None entry diff = λ is. absurd (let never : ◌≡◌ {A = Result State EditError} (Err LocaleName) (Err (DiffRefused entry diff)) = is in cc)
 
 zone_never : (s : State) (found : Option Zone) → Never (and_then (ok_or ZoneName found) (λ zone. zone_given zone s))
-zone_never s (Some zone) = edit_never (SetSetting (setting.Zone zone)) s
+zone_never s (Some zone) entry diff = edit_never (SetSetting (setting.Zone zone)) s entry diff
 zone_never s None entry diff = λ is. absurd (let never : ◌≡◌ {A = Result State EditError} (Err ZoneName) (Err (DiffRefused entry diff)) = is in cc)
 
 language_never : (s : State) (found : Option Language) → Never (speaking_in (ok_or LanguageName found) s)
-language_never s (Some language) = made_never (record s { language = language })
+language_never s (Some language) entry diff = made_never (record s { language = language }) entry diff
 language_never s None entry diff = λ is. absurd (let never : ◌≡◌ {A = Result State EditError} (Err LanguageName) (Err (DiffRefused entry diff)) = is in cc)
 
 -- where no list is stale, one that is there is none

@@ -1,5 +1,5 @@
 pub mod Reads
-pub mod Spelling
+pub mod Encoding
 pub mod Parts
 pub mod Forms
 pub mod laws

@@ -1,4 +1,4 @@
--- What reading a part of a format answers, said by the spelling of the part alone.
+-- What reading a part of a format answers, said by the encoding of the part alone.
 use Rattle.std.specs.Prelude.{◌≡◌, ◌≢◌, ℕ, List, ◌++◌, Result, Ok, IfOk, IfErr}
 use Rattle.base_values.specs.Answers.{Answers}
 use Rattle.base_values.specs.declared.EditError.{EditError}
@@ -8,14 +8,14 @@ use Rattle.base_values.specs.declared.EditError.TheVariants.{NoMemory, ParseDiff
 abbrev pub Read : Type 0 → Type 0
 Read A = Result (A × List ℕ) EditError
 
--- these bytes begin with the spelling of no value that bytes can carry
+-- these bytes begin with the encoding of no value that bytes can carry
 abbrev pub BeginsWithNone : {A : Type 0} → (A → Type 0) → (A → List ℕ) → List ℕ → Type 0
-BeginsWithNone {A} Fits spell bytes = (x : A) → (rest : List ℕ) → Fits x → bytes ≢ spell x ++ rest
+BeginsWithNone {A} Fits encode bytes = (x : A) → (rest : List ℕ) → Fits x → bytes ≢ encode x ++ rest
 
--- what is read was spelled so, and bytes can carry it; what they can carry is read from its spelling, whatever follows; and bytes
+-- what is read was encoded so, and bytes can carry it; what they can carry is read from its encoding, whatever follows; and bytes
 -- are refused only where they begin with no such value
-pub record Reads {A : Type 0} (Fits : A → Type 0) (spell : A → List ℕ) (bytes : List ℕ) (result : Read A) : Type 0 where
-  pub spelled : IfOk result (λ x. bytes ≡ spell x.0 ++ x.1)
+pub record Reads {A : Type 0} (Fits : A → Type 0) (encode : A → List ℕ) (bytes : List ℕ) (result : Read A) : Type 0 where
+  pub encoded : IfOk result (λ x. bytes ≡ encode x.0 ++ x.1)
   pub fits : IfOk result (λ x. Fits x.0)
-  pub again : (x : A) → (rest : List ℕ) → Fits x → bytes ≡ spell x ++ rest → Answers result (Ok (x, rest))
-  pub refused : IfErr result (λ e. e ≢ NoMemory → (e ≡ ParseDiffs) × BeginsWithNone Fits spell bytes)
+  pub again : (x : A) → (rest : List ℕ) → Fits x → bytes ≡ encode x ++ rest → Answers result (Ok (x, rest))
+  pub refused : IfErr result (λ e. e ≢ NoMemory → (e ≡ ParseDiffs) × BeginsWithNone Fits encode bytes)

@@ -1,7 +1,7 @@
 pub mod Reading
 pub mod Again
 pub mod Sixteen
-pub mod Spelled
+pub mod Encoded
 pub mod Refusals
 pub mod Parts
 pub mod Form

@@ -2,7 +2,7 @@ ghost use Rattle.std.specs.Prelude.{◌≡◌};
 ghost use Rattle.base_values.specs.Answers.{ok_or};
 ghost use Rattle.base_values.specs.declared.EditError.TheVariants.{ParseDiffs};
 ghost use Rattle.base_wire.specs.laws.Reading.{decoded, booleans};
-ghost use Rattle.base_wire.specs.Spelling.{boolean_code};
+ghost use Rattle.base_wire.specs.Encoding.{boolean_code};
 
 use base_values::EditError;
 

@@ -1,11 +1,11 @@
 //! The parts of which every format of bytes is made: numbers, booleans, error values, decimals,
 //! texts, options and lists.
 //!
-//! A [`Part`] is a type whose values have a spelling. The layers above see of it the spelling, which is
+//! A [`Part`] is a type whose values have a encoding. The layers above see of it the encoding, which is
 //! a function of the value, and what bytes can carry: a value that they can carry is read again from
-//! its spelling, whatever follows, what is read was spelled so, and all else is refused with
+//! its encoding, whatever follows, what is read was encoded so, and all else is refused with
 //! `ParseDiffs`. `specs/laws/Reading.antt` has the steps of each reader as a function, which serves proofs
-//! alone; `specs/laws/` ties them to the spellings.
+//! alone; `specs/laws/` ties them to the encodings.
 #![tactic(auto)]
 
 mod codes;

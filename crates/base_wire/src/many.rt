@@ -4,7 +4,7 @@ ghost use Rattle.std.specs.Prelude.{◌≡◌, ◌++◌, OnOk};
 ghost use Rattle.std.specs.List.{AllByRecursion};
 ghost use Rattle.base_values.specs.Answers.{Answers, map_ok};
 ghost use Rattle.base_wire.specs.laws.Reading.{list_at, many_at, option_at};
-ghost use Rattle.base_wire.specs.Spelling.{spell_list, FitsItems};
+ghost use Rattle.base_wire.specs.Encoding.{encode_list, FitsItems};
 
 use crate::part::{Part, read};
 use crate::reading::{byte_at, count_at};
@@ -65,7 +65,7 @@ fn list_at<'a, P: Part>(
 /// Adds how many items there are, in eight bytes, and each of them (docs/FORMATS.md, "Bytes"). Out of
 /// memory may leave some of them there.
 pub fn put_items<P: Part>(out: &mut Vec<u8>, items: &[P::Value]) -> Result<(), AllocError>
-    ensures spelled { OnOk result (out.new.items ≡ out.old.items ++ spell_list P.spelling items.now) }
+    ensures encoded { OnOk result (out.new.items ≡ out.old.items ++ encode_list P.encoding items.now) }
     ensures fits { OnOk result (AllByRecursion P.Known items.now → FitsItems P.Fits items.now) }
 {
     out.extend_from_slice(&(items.len() as u64).to_be_bytes())?;
@@ -78,7 +78,7 @@ pub fn put_items<P: Part>(out: &mut Vec<u8>, items: &[P::Value]) -> Result<(), A
 impl<P: Part> Part for Option<P> {
     ghost use Rattle.std.specs.Prelude.{IfSome};
     ghost use Rattle.base_wire.specs.laws.Reading.{option_at};
-    ghost use Rattle.base_wire.specs.Spelling.{spell_option};
+    ghost use Rattle.base_wire.specs.Encoding.{encode_option};
     ghost use Rattle.base_wire.specs.laws.Format.{option_format};
     ghost use Rattle.base_wire.specs.laws.Parts.{option_some};
 
@@ -90,7 +90,7 @@ impl<P: Part> Part for Option<P> {
 
     ghost Fits = { λ o. IfSome o P.Fits };
 
-    ghost spelling = { spell_option P.spelling };
+    ghost encoding = { encode_option P.encoding };
 
     ghost reading = { option_at P.reading };
 
@@ -115,14 +115,14 @@ impl<P: Part> Part for Option<P> {
 
     ghost format = { option_format P.format };
 
-    ghost some = { option_some P.spelling };
+    ghost some = { option_some P.encoding };
 }
 
 impl<P: Part> Part for Items<P> {
     ghost use Rattle.std.proofs.Common.{arith};
     ghost use Rattle.std.specs.List.{AllByRecursion};
     ghost use Rattle.base_wire.specs.laws.Reading.{list_at};
-    ghost use Rattle.base_wire.specs.Spelling.{spell_list, FitsItems};
+    ghost use Rattle.base_wire.specs.Encoding.{encode_list, FitsItems};
     ghost use Rattle.base_wire.specs.laws.Format.{list_format};
 
     type Value = Items<P::Value>;
@@ -133,7 +133,7 @@ impl<P: Part> Part for Items<P> {
 
     ghost Fits = { FitsItems P.Fits };
 
-    ghost spelling = { spell_list P.spelling };
+    ghost encoding = { encode_list P.encoding };
 
     ghost reading = { list_at P.reading };
 

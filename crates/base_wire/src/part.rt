@@ -1,4 +1,4 @@
-//! What every part of a format is: a type whose values have a spelling (docs/FORMATS.md).
+//! What every part of a format is: a type whose values have a encoding (docs/FORMATS.md).
 
 ghost use Rattle.std.specs.Prelude.{◌≡◌, ◌++◌, ◌≤◌, OnOk, List, ℕ, length};
 ghost use Rattle.base_values.specs.Answers.{Answers, map_ok};
@@ -25,31 +25,31 @@ pub trait Part {
     ghost Fits: { Self.Value → Type 0 };
 
     /// The bytes of a value.
-    ghost spelling: { Self.Value → List ℕ };
+    ghost encoding: { Self.Value → List ℕ };
 
     /// Serves proofs alone: the steps of a reader as a function.
     ghost reading: { Reader Self.Value };
 
     /// Adds the bytes of the value. Out of memory may leave some of them there.
     fn put(out: &mut Vec<u8>, value: &Self::Value) -> Result<(), AllocError>
-        ensures spelled { OnOk result (out.new.items ≡ out.old.items ++ spelling value.now) }
+        ensures encoded { OnOk result (out.new.items ≡ out.old.items ++ encoding value.now) }
         ensures fits { OnOk result (Known value.now → Fits value.now) };
 
     /// The value at the front of bytes, and the bytes after it.
     ///
-    /// Refuses with `ParseDiffs` bytes that begin with the spelling of no value, and with `NoMemory`.
+    /// Refuses with `ParseDiffs` bytes that begin with the encoding of no value, and with `NoMemory`.
     fn take<'a>(
         alloc: Global,
         context: &Self::Context,
         bytes: &'a [u8],
     ) -> Result<(Self::Value, &'a [u8]), EditError>
-        ensures { Reads Fits spelling bytes.now (map_ok (λ x. (x.0, x.1.now)) result) };
+        ensures { Reads Fits encoding bytes.now (map_ok (λ x. (x.0, x.1.now)) result) };
 
-    /// The laws that tie the spelling to the reader's steps.
-    ghost format: { Format Fits spelling reading };
+    /// The laws that tie the encoding to the reader's steps.
+    ghost format: { Format Fits encoding reading };
 
     /// Each value takes a byte at least.
-    ghost some: { (x : Self.Value) → 1 ≤ length (spelling x) };
+    ghost some: { (x : Self.Value) → 1 ≤ length (encoding x) };
 }
 
 /// What `take` answers, by the steps of the reader.

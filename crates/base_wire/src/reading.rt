@@ -1,6 +1,6 @@
 //! Numbers, booleans, error values, decimals and texts from the front of bytes (docs/FORMATS.md,
 //! "Bytes"). Each reader answers the value and the bytes after it. It refuses with `ParseDiffs` bytes
-//! that are cut short or spell no such value.
+//! that are cut short or encode no such value.
 
 ghost use Rattle.std.specs.Prelude.{if◌then◌else◌};
 ghost use Rattle.base_values.specs.declared.EditError.TheVariants.{ParseDiffs};

@@ -27,7 +27,7 @@ impl<P: Part> Part for Shared<P> {
 
     ghost Fits = { P.Fits };
 
-    ghost spelling = { P.spelling };
+    ghost encoding = { P.encoding };
 
     ghost reading = { P.reading };
 

@@ -12,7 +12,7 @@ use std::alloc::{AllocError, Global};
 impl Part for u8 {
     ghost use Rattle.std.specs.Prelude.{◌<◌, ◌^◌, [], ◌∷◌};
     ghost use Rattle.std.proofs.Common.{arith};
-    ghost use Rattle.base_wire.specs.Spelling.{Any};
+    ghost use Rattle.base_wire.specs.Encoding.{Any};
     ghost use Rattle.base_wire.specs.laws.Reading.{byte_at};
     ghost use Rattle.base_wire.specs.laws.Parts.{byte_format};
 
@@ -24,7 +24,7 @@ impl Part for u8 {
 
     ghost Fits = { λ b. b < 2 ^ 8 };
 
-    ghost spelling = { λ b. b ∷ [] };
+    ghost encoding = { λ b. b ∷ [] };
 
     ghost reading = { byte_at };
 
@@ -50,7 +50,7 @@ impl Part for u32 {
     ghost use Rattle.std.specs.Prelude.{◌<◌, ◌^◌};
     ghost use Rattle.std.specs.Int.{w32, to_be_bytes};
     ghost use Rattle.std.proofs.Common.{arith};
-    ghost use Rattle.base_wire.specs.Spelling.{Any};
+    ghost use Rattle.base_wire.specs.Encoding.{Any};
     ghost use Rattle.base_wire.specs.laws.Reading.{number_at};
     ghost use Rattle.base_wire.specs.laws.Parts.{short_format};
 
@@ -62,7 +62,7 @@ impl Part for u32 {
 
     ghost Fits = { λ n. n < 2 ^ 32 };
 
-    ghost spelling = { to_be_bytes w32 };
+    ghost encoding = { to_be_bytes w32 };
 
     ghost reading = { number_at w32 };
 
@@ -87,7 +87,7 @@ impl Part for u64 {
     ghost use Rattle.std.specs.Prelude.{◌<◌, ◌^◌};
     ghost use Rattle.std.specs.Int.{w64, to_be_bytes};
     ghost use Rattle.std.proofs.Common.{arith};
-    ghost use Rattle.base_wire.specs.Spelling.{Any};
+    ghost use Rattle.base_wire.specs.Encoding.{Any};
     ghost use Rattle.base_wire.specs.laws.Reading.{number_at};
     ghost use Rattle.base_wire.specs.laws.Parts.{long_format};
 
@@ -99,7 +99,7 @@ impl Part for u64 {
 
     ghost Fits = { λ n. n < 2 ^ 64 };
 
-    ghost spelling = { to_be_bytes w64 };
+    ghost encoding = { to_be_bytes w64 };
 
     ghost reading = { number_at w64 };
 
@@ -124,7 +124,7 @@ impl Part for i32 {
     ghost use Rattle.std.specs.Prelude.{FitsSigned};
     ghost use Rattle.std.specs.Int.{w32};
     ghost use Rattle.std.proofs.Common.{arith};
-    ghost use Rattle.base_wire.specs.Spelling.{spell_signed, Any};
+    ghost use Rattle.base_wire.specs.Encoding.{encode_signed, Any};
     ghost use Rattle.base_wire.specs.laws.Reading.{signed_at};
     ghost use Rattle.base_wire.specs.laws.Parts.{signed_format};
 
@@ -136,7 +136,7 @@ impl Part for i32 {
 
     ghost Fits = { FitsSigned w32 };
 
-    ghost spelling = { spell_signed w32 };
+    ghost encoding = { encode_signed w32 };
 
     ghost reading = { signed_at w32 };
 
@@ -159,7 +159,7 @@ impl Part for i32 {
 
 impl Part for bool {
     ghost use Rattle.std.proofs.Common.{arith};
-    ghost use Rattle.base_wire.specs.Spelling.{boolean_code, spell_code, Any};
+    ghost use Rattle.base_wire.specs.Encoding.{boolean_code, encode_code, Any};
     ghost use Rattle.base_wire.specs.laws.Reading.{boolean_at};
     ghost use Rattle.base_wire.specs.laws.Parts.{boolean_format};
 
@@ -171,7 +171,7 @@ impl Part for bool {
 
     ghost Fits = { Any };
 
-    ghost spelling = { spell_code boolean_code };
+    ghost encoding = { encode_code boolean_code };
 
     ghost reading = { boolean_at };
 
@@ -196,7 +196,7 @@ impl Part for bool {
 impl Part for Error {
     ghost use Rattle.std.proofs.Common.{arith};
     ghost use Rattle.base_tables.specs.Error.{error_code};
-    ghost use Rattle.base_wire.specs.Spelling.{spell_code, Any};
+    ghost use Rattle.base_wire.specs.Encoding.{encode_code, Any};
     ghost use Rattle.base_wire.specs.laws.Reading.{error_at};
     ghost use Rattle.base_wire.specs.laws.Parts.{error_format};
 
@@ -208,7 +208,7 @@ impl Part for Error {
 
     ghost Fits = { Any };
 
-    ghost spelling = { spell_code error_code };
+    ghost encoding = { encode_code error_code };
 
     ghost reading = { error_at };
 
@@ -232,7 +232,7 @@ impl Part for Error {
 
 impl Part for Decimal {
     ghost use Rattle.base_decimal.specs.Canonical.{IsCanonical};
-    ghost use Rattle.base_wire.specs.Parts.{spell_decimal};
+    ghost use Rattle.base_wire.specs.Parts.{encode_decimal};
     ghost use Rattle.base_wire.specs.laws.Reading.{decimal_at};
     ghost use Rattle.base_wire.specs.laws.Parts.{decimal_format, decimal_some};
 
@@ -244,7 +244,7 @@ impl Part for Decimal {
 
     ghost Fits = { IsCanonical };
 
-    ghost spelling = { spell_decimal };
+    ghost encoding = { encode_decimal };
 
     ghost reading = { decimal_at };
 
@@ -267,7 +267,7 @@ impl Part for Decimal {
 
 impl Part for Text {
     ghost use Rattle.std.proofs.Common.{arith};
-    ghost use Rattle.base_wire.specs.Spelling.{spell_text, Any, FitsText};
+    ghost use Rattle.base_wire.specs.Encoding.{encode_text, Any, FitsText};
     ghost use Rattle.base_wire.specs.laws.Reading.{text_at};
     ghost use Rattle.base_wire.specs.laws.Parts.{text_format};
 
@@ -279,7 +279,7 @@ impl Part for Text {
 
     ghost Fits = { FitsText };
 
-    ghost spelling = { spell_text };
+    ghost encoding = { encode_text };
 
     ghost reading = { text_at };
 

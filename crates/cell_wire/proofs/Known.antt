@@ -2,7 +2,7 @@
 use Rattle.std.proofs.Common.{List, [], ◌∷◌, Option, Some, None}
 use Rattle.std.specs.List.{AllByRecursion}
 use Rattle.std.specs.Prelude.{IfSome}
-use Rattle.base_wire.specs.Spelling.{Any}
+use Rattle.base_wire.specs.Encoding.{Any}
 
 pub any_option : {A : Type 0} (o : Option A) → IfSome o Any
 any_option None = tt

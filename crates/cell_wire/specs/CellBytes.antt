@@ -11,17 +11,17 @@ use Rattle.sheet_grid.specs.declared.Cell.{Cell}
 use Rattle.sheet_grid.specs.CanonicalCell.{IsCanonicalCell}
 use Rattle.cell_content.specs.Fitting.{is_shallow}
 use Rattle.cell_content.specs.Lens.{tree_of}
-use Rattle.base_wire.specs.Spelling.{spell_signed, spell_code, boolean_code, spell_text, FitsText}
-use Rattle.base_wire.specs.Parts.{spell_decimal}
-use Rattle.formula_wire.specs.NodeBytes.{spell_node}
+use Rattle.base_wire.specs.Encoding.{encode_signed, encode_code, boolean_code, encode_text, FitsText}
+use Rattle.base_wire.specs.Parts.{encode_decimal}
+use Rattle.formula_wire.specs.NodeBytes.{encode_node}
 use Rattle.formula_wire.specs.Carried.{FitsNode}
-use Rattle.cell_wire.specs.StyleBytes.{spell_style, FitsStyle}
+use Rattle.cell_wire.specs.StyleBytes.{encode_style, FitsStyle}
 
 -- ---- positions
 
 -- row and column
-unfoldable pub spell_position : Position → List ℕ
-spell_position place = spell_signed w32 place.row ++ spell_signed w32 place.column
+unfoldable pub encode_position : Position → List ℕ
+encode_position place = encode_signed w32 place.row ++ encode_signed w32 place.column
 
 -- two numbers of 32 bits, inside the sheet or not
 pub record FitsPosition (place : Position) : Type 0 where
@@ -42,17 +42,17 @@ kind_code (Dynamic tree) = 6
 kind_code (Array tree width height) = 7
 
 -- what a content holds besides a tree: an array how many columns wide and rows high it is
-abbrev pub spell_rest : Content → List ℕ
-spell_rest (Number number) = spell_decimal number
-spell_rest (Boolean value) = spell_code boolean_code value
-spell_rest (ErrorValue error) = spell_code error_code error
-spell_rest (Text text) = spell_text text
-spell_rest (Array tree width height) = spell_signed w32 width ++ spell_signed w32 height
-spell_rest content = []
+abbrev pub encode_rest : Content → List ℕ
+encode_rest (Number number) = encode_decimal number
+encode_rest (Boolean value) = encode_code boolean_code value
+encode_rest (ErrorValue error) = encode_code error_code error
+encode_rest (Text text) = encode_text text
+encode_rest (Array tree width height) = encode_signed w32 width ++ encode_signed w32 height
+encode_rest content = []
 
 -- the kind, the tree of a formula, and what else it holds
-abbrev pub spell_content : Content → List ℕ
-spell_content content = kind_code content ∷ (option_map_or spell_node (tree_of content) [] ++ spell_rest content)
+abbrev pub encode_content : Content → List ℕ
+encode_content content = kind_code content ∷ (option_map_or encode_node (tree_of content) [] ++ encode_rest content)
 
 -- two numbers of 32 bits
 pub record FitsSides (columns rows : ℤ) : Type 0 where
@@ -74,8 +74,8 @@ pub record FitsContent (content : Content) : Type 0 where
 -- ---- cells
 
 -- the content, and the style
-abbrev pub spell_cell : Cell → List ℕ
-spell_cell cell = spell_content cell.content ++ spell_style cell.style
+abbrev pub encode_cell : Cell → List ℕ
+encode_cell cell = encode_content cell.content ++ encode_style cell.style
 
 -- a cell whose parts bytes can carry
 pub record FitsCell (cell : Cell) : Type 0 where

@@ -15,15 +15,15 @@ use Rattle.base_styles.specs.declared.VerticalAlignment.TheVariants as vertical
 use Rattle.base_styles.specs.declared.Alignment.{Alignment}
 use Rattle.base_styles.specs.declared.Font.{Font}
 use Rattle.base_styles.specs.declared.Style.{Style}
-use Rattle.base_wire.specs.Spelling.{spell_signed, spell_code, boolean_code, spell_text, spell_option, FitsText}
+use Rattle.base_wire.specs.Encoding.{encode_signed, encode_code, boolean_code, encode_text, encode_option, FitsText}
 
 -- ---- colours
 
 -- its kind, and then three parts or the code of a theme colour
-abbrev pub spell_color : Color → List ℕ
-spell_color NoColor = 0 ∷ []
-spell_color (Rgb red green blue) = 1 ∷ red ∷ green ∷ blue ∷ []
-spell_color (Theme theme) = 2 ∷ theme_color_code theme ∷ []
+abbrev pub encode_color : Color → List ℕ
+encode_color NoColor = 0 ∷ []
+encode_color (Rgb red green blue) = 1 ∷ red ∷ green ∷ blue ∷ []
+encode_color (Theme theme) = 2 ∷ theme_color_code theme ∷ []
 
 -- its parts are bytes
 abbrev pub FitsColor : Color → Type 0
@@ -34,10 +34,10 @@ FitsColor (Theme theme) = Unit {0}
 -- ---- fonts
 
 -- four marks, the size and the colour
-abbrev pub spell_font : Font → List ℕ
-spell_font font =
-    spell_code boolean_code font.b ++ (spell_code boolean_code font.i ++ (spell_code boolean_code font.u ++ (spell_code boolean_code font.strike
-    ++ (spell_signed w32 font.sz ++ spell_color font.color))))
+abbrev pub encode_font : Font → List ℕ
+encode_font font =
+    encode_code boolean_code font.b ++ (encode_code boolean_code font.i ++ (encode_code boolean_code font.u ++ (encode_code boolean_code font.strike
+    ++ (encode_signed w32 font.sz ++ encode_color font.color))))
 
 -- its size is a number of 32 bits
 pub record FitsFont (font : Font) : Type 0 where
@@ -59,17 +59,17 @@ border_code Thick = 8
 border_code Double = 9
 
 -- how it is drawn, and its colour
-abbrev pub spell_border_item : BorderItem → List ℕ
-spell_border_item item = spell_code border_code item.style ++ spell_color item.color
+abbrev pub encode_border_item : BorderItem → List ℕ
+encode_border_item item = encode_code border_code item.style ++ encode_color item.color
 
 abbrev pub FitsBorderItem : BorderItem → Type 0
 FitsBorderItem item = FitsColor item.color
 
 -- left, right, top, bottom
-abbrev pub spell_border : Border → List ℕ
-spell_border border =
-    spell_option spell_border_item border.left ++ (spell_option spell_border_item border.right
-    ++ (spell_option spell_border_item border.top ++ spell_option spell_border_item border.bottom))
+abbrev pub encode_border : Border → List ℕ
+encode_border border =
+    encode_option encode_border_item border.left ++ (encode_option encode_border_item border.right
+    ++ (encode_option encode_border_item border.top ++ encode_option encode_border_item border.bottom))
 
 -- each side that is there fits
 pub record FitsBorder (border : Border) : Type 0 where
@@ -98,17 +98,17 @@ vertical_code vertical.Justify = 3
 vertical_code vertical.Top = 4
 
 -- between the sides, between top and bottom, and whether the text wraps
-abbrev pub spell_alignment : Alignment → List ℕ
-spell_alignment alignment =
-    spell_code horizontal_code alignment.horizontal ++ (spell_code vertical_code alignment.vertical ++ spell_code boolean_code alignment.wrap_text)
+abbrev pub encode_alignment : Alignment → List ℕ
+encode_alignment alignment =
+    encode_code horizontal_code alignment.horizontal ++ (encode_code vertical_code alignment.vertical ++ encode_code boolean_code alignment.wrap_text)
 
 -- ---- styles
 
 -- the parts of a style in order
-abbrev pub spell_style : Style → List ℕ
-spell_style style =
-    spell_font style.font ++ (spell_color style.fill ++ (spell_border style.border
-    ++ (spell_text style.num_fmt ++ spell_option spell_alignment style.alignment)))
+abbrev pub encode_style : Style → List ℕ
+encode_style style =
+    encode_font style.font ++ (encode_color style.fill ++ (encode_border style.border
+    ++ (encode_text style.num_fmt ++ encode_option encode_alignment style.alignment)))
 
 -- a style whose parts bytes can carry. An alignment always fits
 pub record FitsStyle (style : Style) : Type 0 where

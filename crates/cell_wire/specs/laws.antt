@@ -1,6 +1,6 @@
 pub mod Reading
 pub mod PartsAgain
-pub mod PartsSpelled
+pub mod PartsEncoded
 pub mod Refusals
 pub mod Formats
 pub mod MergeLaws

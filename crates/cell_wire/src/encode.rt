@@ -2,7 +2,7 @@
 
 ghost use Rattle.std.specs.Prelude.{◌≡◌, IfOk, IsOkUnless};
 ghost use Rattle.base_values.specs.declared.EditError.TheVariants.{NoMemory};
-ghost use Rattle.cell_wire.specs.StyleBytes.{spell_style};
+ghost use Rattle.cell_wire.specs.StyleBytes.{encode_style};
 
 use crate::writing::put_style;
 use base_styles::Style;
@@ -11,7 +11,7 @@ use std::alloc::Global;
 
 /// The bytes of a style. Refuses with `NoMemory` alone.
 pub fn encode_style(alloc: Global, style: &Style) -> Result<Vec<u8>, EditError>
-    ensures spelled { IfOk result (λ bytes. bytes.items ≡ spell_style style.now) }
+    ensures encoded { IfOk result (λ bytes. bytes.items ≡ encode_style style.now) }
     ensures only { IsOkUnless result NoMemory }
 {
     let mut out = Vec::new(alloc);

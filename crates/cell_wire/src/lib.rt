@@ -1,7 +1,7 @@
 //! Colours, styles, positions, cells, links and merged cells as bytes, in both directions.
 //!
-//! The layers above see of each a spelling, which is a function of the value: a value that bytes can
-//! carry is read again from its spelling whatever follows, what is read was spelled so, and all else
+//! The layers above see of each a encoding, which is a function of the value: a value that bytes can
+//! carry is read again from its encoding whatever follows, what is read was encoded so, and all else
 //! is refused with `ParseDiffs`. What bytes can carry is every value of Rust's own types whose numbers
 //! are canonical and whose trees are at most 64 deep.
 #![tactic(auto)]

@@ -3,7 +3,7 @@
 ghost use Rattle.std.specs.Prelude.{◌≡◌, ◌++◌, OnOk};
 ghost use Rattle.base_values.specs.Answers.{Answers, map_ok};
 ghost use Rattle.cell_wire.specs.laws.Reading.{link_at, merge_at, merges_at};
-ghost use Rattle.cell_wire.specs.MergeBytes.{spell_merge, spell_merges, FitsMerge, FitsMerges};
+ghost use Rattle.cell_wire.specs.MergeBytes.{encode_merge, encode_merges, FitsMerge, FitsMerges};
 
 use crate::read::read;
 use base_axis::{MergeList, MergedCell};
@@ -45,9 +45,9 @@ fn merges_at(alloc: Global, bytes: &[u8]) -> Result<(MergeList, &[u8]), EditErro
     Ok((MergeList::new(items), rest))
 }
 
-#[tactic(auto, unfolding(crate::specs::MergeBytes::spell_merge))]
+#[tactic(auto, unfolding(crate::specs::MergeBytes::encode_merge))]
 fn put_merge(out: &mut Vec<u8>, merge: MergedCell) -> Result<(), AllocError>
-    ensures spelled { OnOk result (out.new.items ≡ out.old.items ++ spell_merge merge) }
+    ensures encoded { OnOk result (out.new.items ≡ out.old.items ++ encode_merge merge) }
     ensures fits { OnOk result (FitsMerge merge) }
 {
     i32::put(out, &merge.row)?;
@@ -58,7 +58,7 @@ fn put_merge(out: &mut Vec<u8>, merge: MergedCell) -> Result<(), AllocError>
 
 #[tactic(auto, using(crate::proofs::Known::any_items))]
 fn put_merges(out: &mut Vec<u8>, merges: &[MergedCell]) -> Result<(), AllocError>
-    ensures spelled { OnOk result (out.new.items ≡ out.old.items ++ spell_merges merges.now) }
+    ensures encoded { OnOk result (out.new.items ≡ out.old.items ++ encode_merges merges.now) }
     ensures fits { OnOk result (FitsMerges merges.now) }
 {
     put_items::<MergedCellPart>(out, merges)
@@ -76,8 +76,8 @@ pub struct MergeListPart;
 
 impl Part for LinkPart {
     ghost use Rattle.std.proofs.Common.{arith};
-    ghost use Rattle.base_wire.specs.Spelling.{Any};
-    ghost use Rattle.cell_wire.specs.LinkBytes.{spell_link, FitsLink};
+    ghost use Rattle.base_wire.specs.Encoding.{Any};
+    ghost use Rattle.cell_wire.specs.LinkBytes.{encode_link, FitsLink};
     ghost use Rattle.cell_wire.specs.laws.Reading.{link_at};
     ghost use Rattle.cell_wire.specs.laws.MergeLaws.{link_format};
 
@@ -89,7 +89,7 @@ impl Part for LinkPart {
 
     ghost Fits = { FitsLink };
 
-    ghost spelling = { spell_link };
+    ghost encoding = { encode_link };
 
     ghost reading = { link_at };
 
@@ -111,8 +111,8 @@ impl Part for LinkPart {
 }
 
 impl Part for MergedCellPart {
-    ghost use Rattle.base_wire.specs.Spelling.{Any};
-    ghost use Rattle.cell_wire.specs.MergeBytes.{spell_merge, FitsMerge};
+    ghost use Rattle.base_wire.specs.Encoding.{Any};
+    ghost use Rattle.cell_wire.specs.MergeBytes.{encode_merge, FitsMerge};
     ghost use Rattle.cell_wire.specs.laws.Reading.{merge_at};
     ghost use Rattle.cell_wire.specs.laws.MergeLaws.{merge_format, merge_some};
 
@@ -124,7 +124,7 @@ impl Part for MergedCellPart {
 
     ghost Fits = { FitsMerge };
 
-    ghost spelling = { spell_merge };
+    ghost encoding = { encode_merge };
 
     ghost reading = { merge_at };
 
@@ -147,8 +147,8 @@ impl Part for MergedCellPart {
 
 impl Part for MergeListPart {
     ghost use Rattle.std.proofs.Common.{arith};
-    ghost use Rattle.base_wire.specs.Spelling.{Any};
-    ghost use Rattle.cell_wire.specs.MergeBytes.{spell_merges, FitsMerges};
+    ghost use Rattle.base_wire.specs.Encoding.{Any};
+    ghost use Rattle.cell_wire.specs.MergeBytes.{encode_merges, FitsMerges};
     ghost use Rattle.cell_wire.specs.laws.Reading.{merges_at};
     ghost use Rattle.cell_wire.specs.laws.MergeLaws.{merges_format};
 
@@ -160,7 +160,7 @@ impl Part for MergeListPart {
 
     ghost Fits = { FitsMerges };
 
-    ghost spelling = { spell_merges };
+    ghost encoding = { encode_merges };
 
     ghost reading = { merges_at };
 

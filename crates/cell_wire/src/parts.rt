@@ -17,8 +17,8 @@ use std::alloc::{AllocError, Global};
 pub struct ColorPart;
 
 impl Part for ColorPart {
-    ghost use Rattle.base_wire.specs.Spelling.{Any};
-    ghost use Rattle.cell_wire.specs.StyleBytes.{spell_color, FitsColor};
+    ghost use Rattle.base_wire.specs.Encoding.{Any};
+    ghost use Rattle.cell_wire.specs.StyleBytes.{encode_color, FitsColor};
     ghost use Rattle.cell_wire.specs.laws.Reading.{color_at};
     ghost use Rattle.cell_wire.specs.laws.Formats.{color_format, color_some};
 
@@ -30,7 +30,7 @@ impl Part for ColorPart {
 
     ghost Fits = { FitsColor };
 
-    ghost spelling = { spell_color };
+    ghost encoding = { encode_color };
 
     ghost reading = { color_at };
 
@@ -56,8 +56,8 @@ pub(crate) struct BorderItemPart;
 
 impl Part for BorderItemPart {
     ghost use Rattle.std.proofs.Common.{arith};
-    ghost use Rattle.base_wire.specs.Spelling.{Any};
-    ghost use Rattle.cell_wire.specs.StyleBytes.{spell_border_item, FitsBorderItem};
+    ghost use Rattle.base_wire.specs.Encoding.{Any};
+    ghost use Rattle.cell_wire.specs.StyleBytes.{encode_border_item, FitsBorderItem};
     ghost use Rattle.cell_wire.specs.laws.Reading.{border_item_at};
     ghost use Rattle.cell_wire.specs.laws.Formats.{border_item_format};
 
@@ -69,7 +69,7 @@ impl Part for BorderItemPart {
 
     ghost Fits = { FitsBorderItem };
 
-    ghost spelling = { spell_border_item };
+    ghost encoding = { encode_border_item };
 
     ghost reading = { border_item_at };
 
@@ -95,8 +95,8 @@ pub(crate) struct AlignmentPart;
 
 impl Part for AlignmentPart {
     ghost use Rattle.std.proofs.Common.{arith};
-    ghost use Rattle.base_wire.specs.Spelling.{Any};
-    ghost use Rattle.cell_wire.specs.StyleBytes.{spell_alignment};
+    ghost use Rattle.base_wire.specs.Encoding.{Any};
+    ghost use Rattle.cell_wire.specs.StyleBytes.{encode_alignment};
     ghost use Rattle.cell_wire.specs.laws.Reading.{alignment_at};
     ghost use Rattle.cell_wire.specs.laws.Formats.{alignment_format};
 
@@ -108,7 +108,7 @@ impl Part for AlignmentPart {
 
     ghost Fits = { Any };
 
-    ghost spelling = { spell_alignment };
+    ghost encoding = { encode_alignment };
 
     ghost reading = { alignment_at };
 
@@ -133,8 +133,8 @@ impl Part for AlignmentPart {
 pub struct PositionPart;
 
 impl Part for PositionPart {
-    ghost use Rattle.base_wire.specs.Spelling.{Any};
-    ghost use Rattle.cell_wire.specs.CellBytes.{spell_position, FitsPosition};
+    ghost use Rattle.base_wire.specs.Encoding.{Any};
+    ghost use Rattle.cell_wire.specs.CellBytes.{encode_position, FitsPosition};
     ghost use Rattle.cell_wire.specs.laws.Reading.{position_at};
     ghost use Rattle.cell_wire.specs.laws.Formats.{position_format, position_some};
 
@@ -146,7 +146,7 @@ impl Part for PositionPart {
 
     ghost Fits = { FitsPosition };
 
-    ghost spelling = { spell_position };
+    ghost encoding = { encode_position };
 
     ghost reading = { position_at };
 
@@ -172,8 +172,8 @@ pub struct StylePart;
 
 impl Part for StylePart {
     ghost use Rattle.std.proofs.Common.{arith};
-    ghost use Rattle.base_wire.specs.Spelling.{Any};
-    ghost use Rattle.cell_wire.specs.StyleBytes.{spell_style, FitsStyle};
+    ghost use Rattle.base_wire.specs.Encoding.{Any};
+    ghost use Rattle.cell_wire.specs.StyleBytes.{encode_style, FitsStyle};
     ghost use Rattle.cell_wire.specs.laws.Reading.{style_at};
     ghost use Rattle.cell_wire.specs.laws.Formats.{style_format};
 
@@ -185,7 +185,7 @@ impl Part for StylePart {
 
     ghost Fits = { FitsStyle };
 
-    ghost spelling = { spell_style };
+    ghost encoding = { encode_style };
 
     ghost reading = { style_at };
 
@@ -210,7 +210,7 @@ impl Part for StylePart {
 pub struct CellPart;
 
 impl Part for CellPart {
-    ghost use Rattle.cell_wire.specs.CellBytes.{spell_cell, FitsCell, IsKnownCell};
+    ghost use Rattle.cell_wire.specs.CellBytes.{encode_cell, FitsCell, IsKnownCell};
     ghost use Rattle.cell_wire.specs.laws.Reading.{cell_at};
     ghost use Rattle.cell_wire.specs.laws.Formats.{cell_format, cell_some};
 
@@ -222,7 +222,7 @@ impl Part for CellPart {
 
     ghost Fits = { FitsCell };
 
-    ghost spelling = { spell_cell };
+    ghost encoding = { encode_cell };
 
     ghost reading = { cell_at };
 

@@ -4,14 +4,14 @@
 ghost use Rattle.std.specs.Prelude.{◌≡◌, ◌++◌, [], IfSome, IsTrue, OnOk};
 ghost use Rattle.std.specs.Int.{w32};
 ghost use Rattle.std.specs.Option.{option_map_or};
-ghost use Rattle.base_wire.specs.Spelling.{spell_signed};
+ghost use Rattle.base_wire.specs.Encoding.{encode_signed};
 ghost use Rattle.cell_content.specs.Fitting.{is_shallow};
 ghost use Rattle.cell_content.specs.Lens.{tree_of};
 ghost use Rattle.cell_content.specs.CanonicalContent.{IsCanonicalContent};
 ghost use Rattle.formula_wire.specs.Carried.{FitsNode};
-ghost use Rattle.formula_wire.specs.NodeBytes.{spell_node};
-ghost use Rattle.cell_wire.specs.StyleBytes.{spell_alignment, spell_border, spell_border_item, spell_color, spell_font, spell_style, FitsBorder, FitsBorderItem, FitsColor, FitsFont, FitsStyle};
-ghost use Rattle.cell_wire.specs.CellBytes.{spell_cell, spell_content, spell_position, spell_rest, FitsCell, FitsContent, FitsPosition, FitsRest, FitsSides, IsKnownCell};
+ghost use Rattle.formula_wire.specs.NodeBytes.{encode_node};
+ghost use Rattle.cell_wire.specs.StyleBytes.{encode_alignment, encode_border, encode_border_item, encode_color, encode_font, encode_style, FitsBorder, FitsBorderItem, FitsColor, FitsFont, FitsStyle};
+ghost use Rattle.cell_wire.specs.CellBytes.{encode_cell, encode_content, encode_position, encode_rest, FitsCell, FitsContent, FitsPosition, FitsRest, FitsSides, IsKnownCell};
 
 use crate::codes::{border_code, horizontal_code, kind_code, vertical_code};
 use crate::parts::{AlignmentPart, BorderItemPart};
@@ -25,7 +25,7 @@ use sheet_grid::Cell;
 use std::alloc::AllocError;
 
 pub(crate) fn put_color(out: &mut Vec<u8>, color: Color) -> Result<(), AllocError>
-    ensures spelled { OnOk result (out.new.items ≡ out.old.items ++ spell_color color) }
+    ensures encoded { OnOk result (out.new.items ≡ out.old.items ++ encode_color color) }
     ensures fits { OnOk result (FitsColor color) }
 {
     match color {
@@ -37,7 +37,7 @@ pub(crate) fn put_color(out: &mut Vec<u8>, color: Color) -> Result<(), AllocErro
 }
 
 fn put_font(out: &mut Vec<u8>, font: Font) -> Result<(), AllocError>
-    ensures spelled { OnOk result (out.new.items ≡ out.old.items ++ spell_font font) }
+    ensures encoded { OnOk result (out.new.items ≡ out.old.items ++ encode_font font) }
     ensures fits { OnOk result (FitsFont font) }
 {
     out.push(boolean_code(font.b))?;
@@ -49,7 +49,7 @@ fn put_font(out: &mut Vec<u8>, font: Font) -> Result<(), AllocError>
 }
 
 pub(crate) fn put_border_item(out: &mut Vec<u8>, item: BorderItem) -> Result<(), AllocError>
-    ensures spelled { OnOk result (out.new.items ≡ out.old.items ++ spell_border_item item) }
+    ensures encoded { OnOk result (out.new.items ≡ out.old.items ++ encode_border_item item) }
     ensures fits { OnOk result (FitsBorderItem item) }
 {
     out.push(border_code(item.style))?;
@@ -58,7 +58,7 @@ pub(crate) fn put_border_item(out: &mut Vec<u8>, item: BorderItem) -> Result<(),
 
 #[tactic(auto, using(crate::proofs::Known::any_option))]
 fn put_border(out: &mut Vec<u8>, border: Border) -> Result<(), AllocError>
-    ensures spelled { OnOk result (out.new.items ≡ out.old.items ++ spell_border border) }
+    ensures encoded { OnOk result (out.new.items ≡ out.old.items ++ encode_border border) }
     ensures fits { OnOk result (FitsBorder border) }
 {
     Option::<BorderItemPart>::put(out, &border.left)?;
@@ -68,7 +68,7 @@ fn put_border(out: &mut Vec<u8>, border: Border) -> Result<(), AllocError>
 }
 
 pub(crate) fn put_alignment(out: &mut Vec<u8>, alignment: Alignment) -> Result<(), AllocError>
-    ensures { OnOk result (out.new.items ≡ out.old.items ++ spell_alignment alignment) }
+    ensures { OnOk result (out.new.items ≡ out.old.items ++ encode_alignment alignment) }
 {
     out.push(horizontal_code(alignment.horizontal))?;
     out.push(vertical_code(alignment.vertical))?;
@@ -77,7 +77,7 @@ pub(crate) fn put_alignment(out: &mut Vec<u8>, alignment: Alignment) -> Result<(
 }
 
 pub(crate) fn put_style(out: &mut Vec<u8>, style: &Style) -> Result<(), AllocError>
-    ensures spelled { OnOk result (out.new.items ≡ out.old.items ++ spell_style style.now) }
+    ensures encoded { OnOk result (out.new.items ≡ out.old.items ++ encode_style style.now) }
     ensures fits { OnOk result (FitsStyle style.now) }
 {
     put_font(out, style.font)?;
@@ -87,9 +87,9 @@ pub(crate) fn put_style(out: &mut Vec<u8>, style: &Style) -> Result<(), AllocErr
     Option::<AlignmentPart>::put(out, &style.alignment)
 }
 
-#[tactic(auto, unfolding(crate::specs::CellBytes::spell_position))]
+#[tactic(auto, unfolding(crate::specs::CellBytes::encode_position))]
 pub(crate) fn put_position(out: &mut Vec<u8>, place: Position) -> Result<(), AllocError>
-    ensures spelled { OnOk result (out.new.items ≡ out.old.items ++ spell_position place) }
+    ensures encoded { OnOk result (out.new.items ≡ out.old.items ++ encode_position place) }
     ensures fits { OnOk result (FitsPosition place) }
 {
     out.extend_from_slice(&place.row.to_be_bytes())?;
@@ -97,7 +97,7 @@ pub(crate) fn put_position(out: &mut Vec<u8>, place: Position) -> Result<(), All
 }
 
 fn put_sides(out: &mut Vec<u8>, width: i32, height: i32) -> Result<(), AllocError>
-    ensures spelled { OnOk result (out.new.items ≡ out.old.items ++ (spell_signed w32 width ++ spell_signed w32 height)) }
+    ensures encoded { OnOk result (out.new.items ≡ out.old.items ++ (encode_signed w32 width ++ encode_signed w32 height)) }
     ensures fits { OnOk result (FitsSides width height) }
 {
     out.extend_from_slice(&width.to_be_bytes())?;
@@ -106,7 +106,7 @@ fn put_sides(out: &mut Vec<u8>, width: i32, height: i32) -> Result<(), AllocErro
 
 /// What a content holds besides a tree.
 fn put_rest(out: &mut Vec<u8>, content: &Content) -> Result<(), AllocError>
-    ensures spelled { OnOk result (out.new.items ≡ out.old.items ++ spell_rest content.now) }
+    ensures encoded { OnOk result (out.new.items ≡ out.old.items ++ encode_rest content.now) }
     ensures fits { OnOk result (IsCanonicalContent content.now → FitsRest content.now) }
 {
     match content {
@@ -120,7 +120,7 @@ fn put_rest(out: &mut Vec<u8>, content: &Content) -> Result<(), AllocError>
 }
 
 fn put_tree(out: &mut Vec<u8>, content: &Content) -> Result<(), AllocError>
-    ensures spelled { OnOk result (out.new.items ≡ out.old.items ++ option_map_or spell_node (tree_of content.now) []) }
+    ensures encoded { OnOk result (out.new.items ≡ out.old.items ++ option_map_or encode_node (tree_of content.now) []) }
     ensures fits { OnOk result (IsCanonicalContent content.now → IsTrue (is_shallow content.now) → IfSome (tree_of content.now) FitsNode) }
 {
     match tree_of(content) {
@@ -130,7 +130,7 @@ fn put_tree(out: &mut Vec<u8>, content: &Content) -> Result<(), AllocError>
 }
 
 fn put_content(out: &mut Vec<u8>, content: &Content) -> Result<(), AllocError>
-    ensures spelled { OnOk result (out.new.items ≡ out.old.items ++ spell_content content.now) }
+    ensures encoded { OnOk result (out.new.items ≡ out.old.items ++ encode_content content.now) }
     ensures fits { OnOk result (IsCanonicalContent content.now → IsTrue (is_shallow content.now) → FitsContent content.now) }
 {
     out.push(kind_code(content))?;
@@ -139,7 +139,7 @@ fn put_content(out: &mut Vec<u8>, content: &Content) -> Result<(), AllocError>
 }
 
 pub(crate) fn put_cell(out: &mut Vec<u8>, cell: &Cell) -> Result<(), AllocError>
-    ensures spelled { OnOk result (out.new.items ≡ out.old.items ++ spell_cell cell.now) }
+    ensures encoded { OnOk result (out.new.items ≡ out.old.items ++ encode_cell cell.now) }
     ensures fits { OnOk result (IsKnownCell cell.now → FitsCell cell.now) }
 {
     put_content(out, &cell.content)?;

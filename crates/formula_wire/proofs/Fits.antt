@@ -8,7 +8,7 @@ use Rattle.std.proofs.lemmas.List.Folds.{list_all_more}
 use Rattle.formula_tree.specs.declared.Corner.{Corner}
 use Rattle.formula_tree.specs.declared.ArrayItem.{ArrayItem}
 use Rattle.formula_tree.specs.declared.Parameter.{Parameter}
-use Rattle.base_wire.specs.Spelling.{Any, FitsItems, FitsText}
+use Rattle.base_wire.specs.Encoding.{Any, FitsItems, FitsText}
 use Rattle.base_wire.specs.Forms.{is_text, is_list}
 use Rattle.base_wire.specs.laws.Form.{Passes, each_passes, items_out, text_passes}
 use Rattle.formula_wire.specs.Carried.{is_corner, is_item, is_parameter}

@@ -14,8 +14,8 @@ use Rattle.formula_tree.specs.declared.ProductKind.TheVariants.{Multiply, Divide
 use Rattle.formula_tree.specs.declared.UnaryKind.{UnaryKind}
 use Rattle.formula_tree.specs.declared.UnaryKind.TheVariants.{Minus, Percent}
 use Rattle.formula_tree.specs.declared.Parameter.{Parameter}
-use Rattle.base_wire.specs.Spelling.{spell_signed, spell_code, boolean_code, spell_text, spell_option, spell_list}
-use Rattle.base_wire.specs.Parts.{spell_decimal}
+use Rattle.base_wire.specs.Encoding.{encode_signed, encode_code, boolean_code, encode_text, encode_option, encode_list}
+use Rattle.base_wire.specs.Parts.{encode_decimal}
 
 -- ---- kinds of operators
 
@@ -46,37 +46,37 @@ unary_code Percent = 1
 -- ---- corners
 
 -- whether the row is absolute, the row, whether the column is absolute, the column
-unfoldable pub spell_corner : Corner → List ℕ
-spell_corner corner =
-    spell_code boolean_code corner.absolute_row ++ (spell_signed w32 corner.row
-    ++ (spell_code boolean_code corner.absolute_column ++ spell_signed w32 corner.column))
+unfoldable pub encode_corner : Corner → List ℕ
+encode_corner corner =
+    encode_code boolean_code corner.absolute_row ++ (encode_signed w32 corner.row
+    ++ (encode_code boolean_code corner.absolute_column ++ encode_signed w32 corner.column))
 
 -- the name of a sheet, where it is written
-abbrev pub spell_sheet : Option (List ℕ) → List ℕ
-spell_sheet = spell_option spell_text
+abbrev pub encode_sheet : Option (List ℕ) → List ℕ
+encode_sheet = encode_option encode_text
 
 -- ---- arrays
 
 -- the kind of a constant, and then the constant
-abbrev pub spell_item : ArrayItem → List ℕ
-spell_item (item.Boolean value) = 0 ∷ spell_code boolean_code value
-spell_item (item.Number value) = 1 ∷ spell_decimal value
-spell_item (item.Text text) = 2 ∷ spell_text text
-spell_item (item.Error error) = 3 ∷ spell_code error_code error
+abbrev pub encode_item : ArrayItem → List ℕ
+encode_item (item.Boolean value) = 0 ∷ encode_code boolean_code value
+encode_item (item.Number value) = 1 ∷ encode_decimal value
+encode_item (item.Text text) = 2 ∷ encode_text text
+encode_item (item.Error error) = 3 ∷ encode_code error_code error
 
 -- the constants of a line
-abbrev pub spell_line : List ArrayItem → List ℕ
-spell_line = spell_list spell_item
+abbrev pub encode_line : List ArrayItem → List ℕ
+encode_line = encode_list encode_item
 
 -- the lines of an array
-abbrev pub spell_lines : List (List ArrayItem) → List ℕ
-spell_lines = spell_list spell_line
+abbrev pub encode_lines : List (List ArrayItem) → List ℕ
+encode_lines = encode_list encode_line
 
 -- ---- parameters
 
 -- the name, and whether a call may leave it out
-abbrev pub spell_parameter : Parameter → List ℕ
-spell_parameter parameter = spell_text parameter.name ++ spell_code boolean_code parameter.optional
+abbrev pub encode_parameter : Parameter → List ℕ
+encode_parameter parameter = encode_text parameter.name ++ encode_code boolean_code parameter.optional
 
-abbrev pub spell_parameters : List Parameter → List ℕ
-spell_parameters = spell_list spell_parameter
+abbrev pub encode_parameters : List Parameter → List ℕ
+encode_parameters = encode_list encode_parameter

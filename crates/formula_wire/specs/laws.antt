@@ -1,7 +1,7 @@
 pub mod Reading
 pub mod NodeLaws
 pub mod PartLaws
-pub mod SpellEquations
+pub mod EncodeEquations
 pub mod CarriedEquations
 pub mod NodeFits
 pub mod CanonicalNumbers

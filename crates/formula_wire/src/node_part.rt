@@ -3,7 +3,7 @@
 ghost use Rattle.base_values.specs.Answers.{map_ok};
 ghost use Rattle.base_wire.specs.Reads.{Reads};
 ghost use Rattle.formula_wire.specs.Carried.{FitsNode};
-ghost use Rattle.formula_wire.specs.NodeBytes.{spell_node};
+ghost use Rattle.formula_wire.specs.NodeBytes.{encode_node};
 
 use crate::reading::read_node;
 use crate::writing::push_node;
@@ -14,10 +14,10 @@ use std::alloc::{AllocError, Global};
 
 /// The tree at the front of bytes, and the bytes after it (docs/FORMATS.md, "Bytes").
 ///
-/// Refuses with `ParseDiffs` bytes that are cut short, that spell no tree or one that is more than
+/// Refuses with `ParseDiffs` bytes that are cut short, that encode no tree or one that is more than
 /// 64 deep, and with `NoMemory`.
 pub fn node_at(alloc: Global, bytes: &[u8]) -> Result<(Node, &[u8]), EditError>
-    ensures { Reads FitsNode spell_node bytes.now (map_ok (λ x. (x.0, x.1.now)) result) }
+    ensures { Reads FitsNode encode_node bytes.now (map_ok (λ x. (x.0, x.1.now)) result) }
 {
     NodePart::take(alloc, &(), bytes)
 }
@@ -27,7 +27,7 @@ pub struct NodePart;
 
 impl Part for NodePart {
     ghost use Rattle.formula_wire.specs.Carried.{FitsNode, IsKnownNode};
-    ghost use Rattle.formula_wire.specs.NodeBytes.{spell_node};
+    ghost use Rattle.formula_wire.specs.NodeBytes.{encode_node};
     ghost use Rattle.formula_wire.specs.laws.Reading.{node_at};
     ghost use Rattle.formula_wire.specs.laws.NodeLaws.{node_format, some_byte};
 
@@ -39,7 +39,7 @@ impl Part for NodePart {
 
     ghost Fits = { FitsNode };
 
-    ghost spelling = { spell_node };
+    ghost encoding = { encode_node };
 
     ghost reading = { node_at };
 

@@ -17,7 +17,7 @@ impl Part for ConstantPart {
     ghost use Rattle.base_wire.specs.laws.Form.{Passes};
     ghost use Rattle.formula_wire.specs.Carried.{is_item};
     ghost use Rattle.formula_wire.specs.laws.CanonicalNumbers.{is_canonical_item};
-    ghost use Rattle.formula_wire.specs.PartBytes.{spell_item};
+    ghost use Rattle.formula_wire.specs.PartBytes.{encode_item};
     ghost use Rattle.formula_wire.specs.laws.Reading.{item_at};
     ghost use Rattle.formula_wire.specs.laws.PartLaws.{item_form, item_some};
 
@@ -29,7 +29,7 @@ impl Part for ConstantPart {
 
     ghost Fits = { Passes is_item };
 
-    ghost spelling = { spell_item };
+    ghost encoding = { encode_item };
 
     ghost reading = { item_at };
 
@@ -65,10 +65,10 @@ impl Part for ConstantPart {
 
 impl Part for ParameterPart {
     ghost use Rattle.std.proofs.Common.{arith};
-    ghost use Rattle.base_wire.specs.Spelling.{Any};
+    ghost use Rattle.base_wire.specs.Encoding.{Any};
     ghost use Rattle.base_wire.specs.laws.Form.{Passes};
     ghost use Rattle.formula_wire.specs.Carried.{is_parameter};
-    ghost use Rattle.formula_wire.specs.PartBytes.{spell_parameter};
+    ghost use Rattle.formula_wire.specs.PartBytes.{encode_parameter};
     ghost use Rattle.formula_wire.specs.laws.Reading.{parameter_at};
     ghost use Rattle.formula_wire.specs.laws.PartLaws.{parameter_form};
 
@@ -80,7 +80,7 @@ impl Part for ParameterPart {
 
     ghost Fits = { Passes is_parameter };
 
-    ghost spelling = { spell_parameter };
+    ghost encoding = { encode_parameter };
 
     ghost reading = { parameter_at };
 

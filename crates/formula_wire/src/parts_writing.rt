@@ -3,12 +3,12 @@
 
 ghost use Rattle.std.specs.Prelude.{◌≡◌, ◌∷◌, ◌++◌, ◌&&◌, true, OnOk};
 ghost use Rattle.std.specs.List.{list_all};
-ghost use Rattle.base_wire.specs.Parts.{spell_decimal};
-ghost use Rattle.base_wire.specs.Spelling.{spell_text};
+ghost use Rattle.base_wire.specs.Parts.{encode_decimal};
+ghost use Rattle.base_wire.specs.Encoding.{encode_text};
 ghost use Rattle.base_wire.specs.Forms.{if_passes, is_list, is_text};
 ghost use Rattle.formula_wire.specs.Carried.{is_corner, is_item, is_parameter};
 ghost use Rattle.formula_wire.specs.laws.CanonicalNumbers.{is_canonical_item};
-ghost use Rattle.formula_wire.specs.PartBytes.{spell_corner, spell_lines, spell_parameters, spell_sheet};
+ghost use Rattle.formula_wire.specs.PartBytes.{encode_corner, encode_lines, encode_parameters, encode_sheet};
 
 use crate::parts::{ConstantPart, ParameterPart};
 use base_decimal::Decimal;
@@ -21,7 +21,7 @@ use std::alloc::AllocError;
 /// Adds a tag and a text.
 #[tactic(auto, using(crate::proofs::Fits::text_carried, crate::proofs::Joins::pieces))]
 pub(crate) fn push_tagged_text(out: &mut Vec<u8>, tag: u8, text: &Text) -> Result<(), AllocError>
-    ensures spelled { OnOk result (out.new.items ≡ out.old.items ++ tag ∷ spell_text text.now) }
+    ensures encoded { OnOk result (out.new.items ≡ out.old.items ++ tag ∷ encode_text text.now) }
     ensures carried { OnOk result (is_text text.now ≡ true) }
 {
     out.push(tag)?;
@@ -29,9 +29,9 @@ pub(crate) fn push_tagged_text(out: &mut Vec<u8>, tag: u8, text: &Text) -> Resul
     Ok(())
 }
 
-#[tactic(auto, using(crate::proofs::Fits::corner_carried), unfolding(crate::specs::PartBytes::spell_corner))]
+#[tactic(auto, using(crate::proofs::Fits::corner_carried), unfolding(crate::specs::PartBytes::encode_corner))]
 fn push_corner(out: &mut Vec<u8>, corner: Corner) -> Result<(), AllocError>
-    ensures spelled { OnOk result (out.new.items ≡ out.old.items ++ spell_corner corner) }
+    ensures encoded { OnOk result (out.new.items ≡ out.old.items ++ encode_corner corner) }
     ensures carried { OnOk result (is_corner corner ≡ true) }
 {
     out.push(boolean_code(corner.absolute_row))?;
@@ -41,7 +41,7 @@ fn push_corner(out: &mut Vec<u8>, corner: Corner) -> Result<(), AllocError>
 }
 
 fn push_sheet(out: &mut Vec<u8>, sheet: &Option<Shared<Text>>) -> Result<(), AllocError>
-    ensures spelled { OnOk result (out.new.items ≡ out.old.items ++ spell_sheet sheet.now) }
+    ensures encoded { OnOk result (out.new.items ≡ out.old.items ++ encode_sheet sheet.now) }
     ensures carried { OnOk result (if_passes is_text sheet.now ≡ true) }
 {
     match sheet {
@@ -51,7 +51,7 @@ fn push_sheet(out: &mut Vec<u8>, sheet: &Option<Shared<Text>>) -> Result<(), All
 }
 
 pub(crate) fn push_number(out: &mut Vec<u8>, number: Decimal) -> Result<(), AllocError>
-    ensures { OnOk result (out.new.items ≡ out.old.items ++ 1 ∷ spell_decimal number) }
+    ensures { OnOk result (out.new.items ≡ out.old.items ++ 1 ∷ encode_decimal number) }
 {
     out.push(1)?;
     Decimal::put(out, &number)
@@ -63,7 +63,7 @@ pub(crate) fn push_reference(
     sheet: &Option<Shared<Text>>,
     corner: Corner,
 ) -> Result<(), AllocError>
-    ensures spelled { OnOk result (out.new.items ≡ out.old.items ++ 3 ∷ (spell_sheet sheet.now ++ spell_corner corner)) }
+    ensures encoded { OnOk result (out.new.items ≡ out.old.items ++ 3 ∷ (encode_sheet sheet.now ++ encode_corner corner)) }
     ensures carried { OnOk result (if_passes is_text sheet.now && is_corner corner ≡ true) }
 {
     out.push(3)?;
@@ -79,7 +79,7 @@ pub(crate) fn push_range(
     first: Corner,
     second: Corner,
 ) -> Result<(), AllocError>
-    ensures spelled { OnOk result (out.new.items ≡ out.old.items ++ 4 ∷ (spell_sheet sheet.now ++ (spell_corner first ++ spell_corner second))) }
+    ensures encoded { OnOk result (out.new.items ≡ out.old.items ++ 4 ∷ (encode_sheet sheet.now ++ (encode_corner first ++ encode_corner second))) }
     ensures carried { OnOk result (if_passes is_text sheet.now && (is_corner first && is_corner second) ≡ true) }
 {
     out.push(4)?;
@@ -94,7 +94,7 @@ pub(crate) fn push_array(
     out: &mut Vec<u8>,
     lines: &Items<Items<ArrayItem>>,
 ) -> Result<(), AllocError>
-    ensures spelled { OnOk result (out.new.items ≡ out.old.items ++ 14 ∷ spell_lines lines.now) }
+    ensures encoded { OnOk result (out.new.items ≡ out.old.items ++ 14 ∷ encode_lines lines.now) }
     ensures carried { OnOk result (is_list (is_list is_item) lines.now ≡ list_all (list_all is_canonical_item) lines.now) }
 {
     out.push(14)?;
@@ -108,7 +108,7 @@ pub(crate) fn push_parameters(
     out: &mut Vec<u8>,
     parameters: &Items<Parameter>,
 ) -> Result<(), AllocError>
-    ensures spelled { OnOk result (out.new.items ≡ out.old.items ++ 20 ∷ spell_parameters parameters.now) }
+    ensures encoded { OnOk result (out.new.items ≡ out.old.items ++ 20 ∷ encode_parameters parameters.now) }
     ensures carried { OnOk result (is_list is_parameter parameters.now ≡ true) }
 {
     out.push(20)?;

@@ -3,14 +3,14 @@
 ghost use Rattle.std.specs.Prelude.{◌≡◌, ◌∷◌, ◌++◌, ◌&&◌, true, OnOk};
 ghost use Rattle.std.specs.List.{list_all};
 ghost use Rattle.formula_tree.specs.Numbers.{has_canonical_numbers};
-ghost use Rattle.base_wire.specs.Spelling.{spell_text};
-ghost use Rattle.base_wire.specs.Parts.{spell_decimal};
+ghost use Rattle.base_wire.specs.Encoding.{encode_text};
+ghost use Rattle.base_wire.specs.Parts.{encode_decimal};
 ghost use Rattle.base_wire.specs.Forms.{if_passes, is_list, is_text};
 ghost use Rattle.formula_wire.specs.Carried.{is_carried, is_corner, is_item, is_parameter, FitsNode, IsKnownNode};
 ghost use Rattle.formula_wire.specs.laws.CanonicalNumbers.{is_canonical_item};
-ghost use Rattle.formula_wire.specs.PartBytes.{spell_corner, spell_lines, spell_parameters, spell_sheet};
-ghost use Rattle.formula_wire.specs.NodeBytes.{spell_node};
-ghost use Rattle.formula_wire.specs.laws.SpellEquations.{spell_nodes};
+ghost use Rattle.formula_wire.specs.PartBytes.{encode_corner, encode_lines, encode_parameters, encode_sheet};
+ghost use Rattle.formula_wire.specs.NodeBytes.{encode_node};
+ghost use Rattle.formula_wire.specs.laws.EncodeEquations.{encode_nodes};
 
 use crate::codes::{compare_code, product_code, sum_code, unary_code};
 use crate::parts_writing::{
@@ -25,7 +25,7 @@ use std::alloc::AllocError;
 /// Adds the bytes of a tree (docs/FORMATS.md, "Bytes"). Bytes can carry a tree that is at most 64 deep and
 /// whose numbers are canonical. Out of memory may leave some of its bytes there.
 pub fn push_node(out: &mut Vec<u8>, node: &Node) -> Result<(), AllocError>
-    ensures spelled { OnOk result (out.new.items ≡ out.old.items ++ spell_node node.now) }
+    ensures encoded { OnOk result (out.new.items ≡ out.old.items ++ encode_node node.now) }
     ensures fits { OnOk result (IsKnownNode node.now → FitsNode node.now) }
 {
     push_tree(out, node)
@@ -33,9 +33,9 @@ pub fn push_node(out: &mut Vec<u8>, node: &Node) -> Result<(), AllocError>
 
 /// Of a tree of Rust's own types only the numbers may not fit.
 #[cycle(nodes)]
-#[tactic(auto, using(crate::specs::laws::SpellEquations::spellings, crate::specs::laws::CarriedEquations::carryings, crate::proofs::Numbers::canonical, crate::proofs::Joins::pieces))]
+#[tactic(auto, using(crate::specs::laws::EncodeEquations::encodings, crate::specs::laws::CarriedEquations::carryings, crate::proofs::Numbers::canonical, crate::proofs::Joins::pieces))]
 fn push_tree(out: &mut Vec<u8>, node: &Node) -> Result<(), AllocError>
-    ensures spelled { OnOk result (out.new.items ≡ out.old.items ++ spell_node node.now) }
+    ensures encoded { OnOk result (out.new.items ≡ out.old.items ++ encode_node node.now) }
     ensures carried { OnOk result (is_carried node.now ≡ has_canonical_numbers node.now) }
 {
     match node {
@@ -89,7 +89,7 @@ fn push_tree(out: &mut Vec<u8>, node: &Node) -> Result<(), AllocError>
 /// Adds the bytes that a node begins with, and a child.
 #[cycle(nodes)]
 fn push_boxed(out: &mut Vec<u8>, head: &[u8], node: &Shared<Node>) -> Result<(), AllocError>
-    ensures spelled { OnOk result (out.new.items ≡ out.old.items ++ (head.now ++ spell_node node.now)) }
+    ensures encoded { OnOk result (out.new.items ≡ out.old.items ++ (head.now ++ encode_node node.now)) }
     ensures carried { OnOk result (is_carried node.now ≡ has_canonical_numbers node.now) }
 {
     out.extend_from_slice(head)?;
@@ -100,7 +100,7 @@ fn push_boxed(out: &mut Vec<u8>, head: &[u8], node: &Shared<Node>) -> Result<(),
 #[cycle(nodes)]
 #[tactic(auto, using(crate::proofs::Fits::lists, crate::proofs::Joins::pieces))]
 fn push_nodes(out: &mut Vec<u8>, head: &[u8], nodes: &Items<Node>) -> Result<(), AllocError>
-    ensures spelled { OnOk result (out.new.items ≡ out.old.items ++ (head.now ++ spell_nodes nodes.now)) }
+    ensures encoded { OnOk result (out.new.items ≡ out.old.items ++ (head.now ++ encode_nodes nodes.now)) }
     ensures carried { OnOk result (is_list is_carried nodes.now ≡ list_all has_canonical_numbers nodes.now) }
 {
     out.extend_from_slice(head)?;
@@ -119,7 +119,7 @@ fn push_named_call(
     name: &Text,
     arguments: &Items<Node>,
 ) -> Result<(), AllocError>
-    ensures spelled { OnOk result (out.new.items ≡ out.old.items ++ 13 ∷ (spell_text name.now ++ spell_nodes arguments.now)) }
+    ensures encoded { OnOk result (out.new.items ≡ out.old.items ++ 13 ∷ (encode_text name.now ++ encode_nodes arguments.now)) }
     ensures carried { OnOk result (is_text name.now && is_list is_carried arguments.now ≡ list_all has_canonical_numbers arguments.now) }
 {
     push_tagged_text(out, 13, name)?;
@@ -134,7 +134,7 @@ fn push_lambda(
     parameters: &Items<Parameter>,
     body: &Shared<Node>,
 ) -> Result<(), AllocError>
-    ensures spelled { OnOk result (out.new.items ≡ out.old.items ++ 20 ∷ (spell_parameters parameters.now ++ spell_node body.now)) }
+    ensures encoded { OnOk result (out.new.items ≡ out.old.items ++ 20 ∷ (encode_parameters parameters.now ++ encode_node body.now)) }
     ensures carried { OnOk result (is_list is_parameter parameters.now && is_carried body.now ≡ has_canonical_numbers body.now) }
 {
     push_parameters(out, parameters)?;

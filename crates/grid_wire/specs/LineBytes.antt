@@ -3,12 +3,12 @@ use Rattle.std.specs.Prelude.{◌≡◌, false, ℕ, List, ◌++◌, IfSome, Fit
 use Rattle.std.specs.Int.{w32}
 use Rattle.sheet_grid.specs.Lines.{is_plain}
 use Rattle.sheet_grid.specs.declared.LineAttr.{LineAttr}
-use Rattle.base_wire.specs.Spelling.{spell_signed, spell_code, boolean_code, spell_option}
-use Rattle.cell_wire.specs.StyleBytes.{spell_style, FitsStyle}
+use Rattle.base_wire.specs.Encoding.{encode_signed, encode_code, boolean_code, encode_option}
+use Rattle.cell_wire.specs.StyleBytes.{encode_style, FitsStyle}
 
 -- the size, the style, and whether it is hidden
-abbrev pub spell_line : LineAttr → List ℕ
-spell_line attr = spell_option (spell_signed w32) attr.size ++ (spell_option spell_style attr.style ++ spell_code boolean_code attr.hidden)
+abbrev pub encode_line : LineAttr → List ℕ
+encode_line attr = encode_option (encode_signed w32) attr.size ++ (encode_option encode_style attr.style ++ encode_code boolean_code attr.hidden)
 
 -- a size of 32 bits, a style that bytes can carry, and something of its own
 pub record FitsLine (attr : LineAttr) : Type 0 where

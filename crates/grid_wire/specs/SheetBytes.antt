@@ -5,23 +5,23 @@ use Rattle.std.specs.Int.{w32, to_be_bytes}
 use Rattle.base_values.specs.declared.Position.{Position}
 use Rattle.base_values.specs.Places.{IsPlace, IsRow, IsColumn}
 use Rattle.sheet_grid.specs.Sheet.{Sheet}
-use Rattle.base_wire.specs.Spelling.{spell_signed, spell_code, boolean_code, spell_text, FitsText}
-use Rattle.map_wire.specs.MapBytes.{spell_map, FitsMap}
-use Rattle.cell_wire.specs.StyleBytes.{spell_color, FitsColor}
-use Rattle.cell_wire.specs.CellBytes.{spell_position, spell_cell, FitsCell, IsKnownCell}
-use Rattle.cell_wire.specs.LinkBytes.{spell_link, FitsLink}
-use Rattle.cell_wire.specs.MergeBytes.{spell_merges, FitsMerges}
-use Rattle.rule_wire.specs.FormattingBytes.{spell_formattings, FitsFormattings, AreKnownFormattings}
+use Rattle.base_wire.specs.Encoding.{encode_signed, encode_code, boolean_code, encode_text, FitsText}
+use Rattle.map_wire.specs.MapBytes.{encode_map, FitsMap}
+use Rattle.cell_wire.specs.StyleBytes.{encode_color, FitsColor}
+use Rattle.cell_wire.specs.CellBytes.{encode_position, encode_cell, FitsCell, IsKnownCell}
+use Rattle.cell_wire.specs.LinkBytes.{encode_link, FitsLink}
+use Rattle.cell_wire.specs.MergeBytes.{encode_merges, FitsMerges}
+use Rattle.rule_wire.specs.FormattingBytes.{encode_formattings, FitsFormattings, AreKnownFormattings}
 use Rattle.grid_wire.specs.StateBytes.{state_code}
-use Rattle.grid_wire.specs.LineBytes.{spell_line, FitsLine, IsKnownLine}
+use Rattle.grid_wire.specs.LineBytes.{encode_line, FitsLine, IsKnownLine}
 
 -- ---- its fields
 
 -- the id, the name, the state, the colour, whether grid lines are drawn, and how many rows and columns are frozen
-unfoldable pub spell_fields : Sheet → List ℕ
-spell_fields sheet =
-    to_be_bytes w32 sheet.id ++ (spell_text sheet.name ++ (spell_code state_code sheet.state ++ (spell_color sheet.color
-    ++ (spell_code boolean_code sheet.show_grid_lines ++ (spell_signed w32 sheet.frozen_rows ++ spell_signed w32 sheet.frozen_columns)))))
+unfoldable pub encode_fields : Sheet → List ℕ
+encode_fields sheet =
+    to_be_bytes w32 sheet.id ++ (encode_text sheet.name ++ (encode_code state_code sheet.state ++ (encode_color sheet.color
+    ++ (encode_code boolean_code sheet.show_grid_lines ++ (encode_signed w32 sheet.frozen_rows ++ encode_signed w32 sheet.frozen_columns)))))
 
 -- an id of 32 bits, a text of Rust, a colour that bytes can carry, and counts of 32 bits
 pub record FitsFields (sheet : Sheet) : Type 0 where
@@ -34,11 +34,11 @@ pub record FitsFields (sheet : Sheet) : Type 0 where
 -- ---- what stands in it
 
 -- rows, columns, cells, links, merges and conditional rules
-unfoldable pub spell_entries : Sheet → List ℕ
-spell_entries sheet =
-    spell_map (spell_signed w32) spell_line sheet.rows ++ (spell_map (spell_signed w32) spell_line sheet.columns
-    ++ (spell_map spell_position spell_cell sheet.cells ++ (spell_map spell_position spell_link sheet.links
-    ++ (spell_merges sheet.merges ++ spell_formattings sheet.formattings))))
+unfoldable pub encode_entries : Sheet → List ℕ
+encode_entries sheet =
+    encode_map (encode_signed w32) encode_line sheet.rows ++ (encode_map (encode_signed w32) encode_line sheet.columns
+    ++ (encode_map encode_position encode_cell sheet.cells ++ (encode_map encode_position encode_link sheet.links
+    ++ (encode_merges sheet.merges ++ encode_formattings sheet.formattings))))
 
 -- maps with keys inside, merges and conditional rules, which bytes can carry
 pub record FitsEntries (sheet : Sheet) : Type 0 where
@@ -52,8 +52,8 @@ pub record FitsEntries (sheet : Sheet) : Type 0 where
 -- ---- whole sheets
 
 -- the fields, and what stands in it
-unfoldable pub spell_sheet : Sheet → List ℕ
-spell_sheet sheet = spell_fields sheet ++ spell_entries sheet
+unfoldable pub encode_sheet : Sheet → List ℕ
+encode_sheet sheet = encode_fields sheet ++ encode_entries sheet
 
 -- a sheet whose parts bytes can carry
 pub record FitsSheet (sheet : Sheet) : Type 0 where

@@ -6,9 +6,9 @@ ghost use Rattle.std.specs.Int.{w32};
 ghost use Rattle.base_values.specs.Answers.{Answers, map_ok};
 ghost use Rattle.base_values.specs.Places.{IsLine, IsPlace};
 ghost use Rattle.base_values.specs.declared.Position.{Position};
-ghost use Rattle.base_wire.specs.Spelling.{spell_signed};
-ghost use Rattle.cell_wire.specs.CellBytes.{spell_position};
-ghost use Rattle.map_wire.specs.MapBytes.{spell_map, FitsMap};
+ghost use Rattle.base_wire.specs.Encoding.{encode_signed};
+ghost use Rattle.cell_wire.specs.CellBytes.{encode_position};
+ghost use Rattle.map_wire.specs.MapBytes.{encode_map, FitsMap};
 ghost use Rattle.grid_wire.specs.laws.Reading.{axis_line_at, axis_map_at, place_at, place_map_at};
 
 use crate::steps::read;
@@ -52,7 +52,7 @@ struct AxisLinePart<A: Axis> {
 
 impl Part for PlacePart {
     ghost use Rattle.base_values.specs.Places.{IsPlace};
-    ghost use Rattle.cell_wire.specs.CellBytes.{spell_position};
+    ghost use Rattle.cell_wire.specs.CellBytes.{encode_position};
     ghost use Rattle.cell_wire.specs.laws.Formats.{position_some};
     ghost use Rattle.grid_wire.specs.laws.Reading.{place_at};
     ghost use Rattle.grid_wire.specs.laws.KeyLaws.{place_format};
@@ -65,7 +65,7 @@ impl Part for PlacePart {
 
     ghost Fits = { IsPlace };
 
-    ghost spelling = { spell_position };
+    ghost encoding = { encode_position };
 
     ghost reading = { place_at };
 
@@ -90,7 +90,7 @@ impl<A: Axis> Part for AxisLinePart<A> {
     ghost use Rattle.std.proofs.Common.{arith};
     ghost use Rattle.std.specs.Int.{w32};
     ghost use Rattle.base_values.specs.Places.{IsLine};
-    ghost use Rattle.base_wire.specs.Spelling.{spell_signed};
+    ghost use Rattle.base_wire.specs.Encoding.{encode_signed};
     ghost use Rattle.grid_wire.specs.laws.Reading.{axis_line_at};
     ghost use Rattle.grid_wire.specs.laws.KeyLaws.{axis_line_format};
 
@@ -102,7 +102,7 @@ impl<A: Axis> Part for AxisLinePart<A> {
 
     ghost Fits = { IsLine A.along.last };
 
-    ghost spelling = { spell_signed w32 };
+    ghost encoding = { encode_signed w32 };
 
     ghost reading = { axis_line_at A.along.last };
 
@@ -152,7 +152,7 @@ pub(crate) fn put_place_map<P: Part>(
     out: &mut Vec<u8>,
     map: &PlaceMap<P::Value>,
 ) -> Result<(), AllocError>
-    ensures spelled { OnOk result (out.new.items ≡ out.old.items ++ spell_map spell_position P.spelling map.now) }
+    ensures encoded { OnOk result (out.new.items ≡ out.old.items ++ encode_map encode_position P.encoding map.now) }
     ensures fits { OnOk result (((place : Position) → IfSome (get map.now place) P.Known) → FitsMap IsPlace P.Fits map.now) }
 {
     put_map::<PlaceKeys<P::Value>, PlacePart, P>(out, map)?;
@@ -164,7 +164,7 @@ pub(crate) fn put_axis_map<A: Axis, P: Part>(
     out: &mut Vec<u8>,
     map: &AxisMap<A, P::Value>,
 ) -> Result<(), AllocError>
-    ensures spelled { OnOk result (out.new.items ≡ out.old.items ++ spell_map (spell_signed w32) P.spelling map.now) }
+    ensures encoded { OnOk result (out.new.items ≡ out.old.items ++ encode_map (encode_signed w32) P.encoding map.now) }
     ensures fits { OnOk result (((line : ℤ) → IfSome (get map.now line) P.Known) → FitsMap (IsLine A.along.last) P.Fits map.now) }
 {
     put_map::<LineKeys<A, P::Value>, AxisLinePart<A>, P>(out, map)?;

@@ -1,7 +1,7 @@
 //! Defined names, what lines have of their own and whole sheets as bytes, in both directions.
 //!
-//! The layers above see of each a spelling, which is a function of the value: what bytes can carry is
-//! read again from its spelling whatever follows, what is read was spelled so, and all else is refused
+//! The layers above see of each a encoding, which is a function of the value: what bytes can carry is
+//! read again from its encoding whatever follows, what is read was encoded so, and all else is refused
 //! with `ParseDiffs`. The keys of a sheet's maps lie inside the sheet.
 #![tactic(auto)]
 

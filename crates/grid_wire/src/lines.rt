@@ -35,12 +35,12 @@ fn line_at<'a>(
     Ok((attr, rest))
 }
 
-/// What a row or a column has of its own (docs/FORMATS.md, "Bytes"). Bytes spell none that has nothing.
+/// What a row or a column has of its own (docs/FORMATS.md, "Bytes"). Bytes encode none that has nothing.
 /// Each style that is read and equal to that of the context shares it.
 pub struct LinePart;
 
 impl Part for LinePart {
-    ghost use Rattle.grid_wire.specs.LineBytes.{spell_line, FitsLine, IsKnownLine};
+    ghost use Rattle.grid_wire.specs.LineBytes.{encode_line, FitsLine, IsKnownLine};
     ghost use Rattle.grid_wire.specs.laws.Reading.{line_at};
     ghost use Rattle.grid_wire.specs.laws.LineLaws.{line_format, line_some};
 
@@ -52,7 +52,7 @@ impl Part for LinePart {
 
     ghost Fits = { FitsLine };
 
-    ghost spelling = { spell_line };
+    ghost encoding = { encode_line };
 
     ghost reading = { line_at };
 

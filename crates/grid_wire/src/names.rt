@@ -31,7 +31,7 @@ fn name_at(alloc: Global, bytes: &[u8]) -> Result<(DefinedName, &[u8]), EditErro
 pub struct NamePart;
 
 impl Part for NamePart {
-    ghost use Rattle.grid_wire.specs.NameBytes.{spell_name, FitsName, IsKnownName};
+    ghost use Rattle.grid_wire.specs.NameBytes.{encode_name, FitsName, IsKnownName};
     ghost use Rattle.grid_wire.specs.laws.Reading.{name_at};
     ghost use Rattle.grid_wire.specs.laws.NameLaws.{name_format, name_some};
 
@@ -43,11 +43,11 @@ impl Part for NamePart {
 
     ghost Fits = { FitsName };
 
-    ghost spelling = { spell_name };
+    ghost encoding = { encode_name };
 
     ghost reading = { name_at };
 
-    #[tactic(auto, using(map_wire::specs::laws::MapFits::any_option), unfolding(crate::specs::NameBytes::spell_name))]
+    #[tactic(auto, using(map_wire::specs::laws::MapFits::any_option), unfolding(crate::specs::NameBytes::encode_name))]
     fn put(out: &mut Vec<u8>, value: &DefinedName) -> Result<(), AllocError> {
         Text::put(out, &value.name)?;
         Option::<u32>::put(out, &value.scope)?;

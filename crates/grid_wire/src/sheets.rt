@@ -13,13 +13,13 @@ use std::alloc::{AllocError, Global};
 /// its frozen rows and columns, its rows, columns, cells, links, merges and conditional rules
 /// (docs/FORMATS.md, "Bytes").
 ///
-/// Bytes spell none where a key lies outside the sheet, where a map's keys don't rise strictly, or where
+/// Bytes encode none where a key lies outside the sheet, where a map's keys don't rise strictly, or where
 /// a row or a column has nothing of its own. Each style that is read and equal to that of the context
 /// shares it.
 pub struct SheetPart;
 
 impl Part for SheetPart {
-    ghost use Rattle.grid_wire.specs.SheetBytes.{spell_sheet, FitsSheet, IsKnownSheet};
+    ghost use Rattle.grid_wire.specs.SheetBytes.{encode_sheet, FitsSheet, IsKnownSheet};
     ghost use Rattle.grid_wire.specs.laws.Reading.{sheet_at};
     ghost use Rattle.grid_wire.specs.laws.SheetLaws.{sheet_format, sheet_some};
 
@@ -31,7 +31,7 @@ impl Part for SheetPart {
 
     ghost Fits = { FitsSheet };
 
-    ghost spelling = { spell_sheet };
+    ghost encoding = { encode_sheet };
 
     ghost reading = { sheet_at };
 

@@ -48,7 +48,7 @@ pub struct StatePart;
 impl Part for StatePart {
     ghost use Rattle.std.proofs.Common.{arith};
     ghost use Rattle.base_wire.specs.laws.Reading.{code_at};
-    ghost use Rattle.base_wire.specs.Spelling.{Any, spell_code};
+    ghost use Rattle.base_wire.specs.Encoding.{Any, encode_code};
     ghost use Rattle.grid_wire.specs.StateBytes.{state_code};
     ghost use Rattle.grid_wire.specs.laws.Reading.{states};
     ghost use Rattle.grid_wire.specs.laws.StateLaws.{state_format};
@@ -61,7 +61,7 @@ impl Part for StatePart {
 
     ghost Fits = { Any };
 
-    ghost spelling = { spell_code state_code };
+    ghost encoding = { encode_code state_code };
 
     ghost reading = { code_at state_code states };
 

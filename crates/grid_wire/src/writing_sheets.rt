@@ -2,10 +2,10 @@
 
 ghost use Rattle.std.specs.Prelude.{◌≡◌, ◌++◌, OnOk, FitsSigned};
 ghost use Rattle.std.specs.Int.{w32};
-ghost use Rattle.base_wire.specs.Spelling.{boolean_code, spell_code, spell_signed, spell_text, FitsText};
-ghost use Rattle.cell_wire.specs.StyleBytes.{spell_color, FitsColor};
+ghost use Rattle.base_wire.specs.Encoding.{boolean_code, encode_code, encode_signed, encode_text, FitsText};
+ghost use Rattle.cell_wire.specs.StyleBytes.{encode_color, FitsColor};
 ghost use Rattle.grid_wire.specs.StateBytes.{state_code};
-ghost use Rattle.grid_wire.specs.SheetBytes.{spell_entries, spell_fields, spell_sheet, FitsEntries, FitsFields, FitsSheet, IsKnownSheet};
+ghost use Rattle.grid_wire.specs.SheetBytes.{encode_entries, encode_fields, encode_sheet, FitsEntries, FitsFields, FitsSheet, IsKnownSheet};
 
 use crate::keys::{put_axis_map, put_place_map};
 use crate::lines::LinePart;
@@ -18,7 +18,7 @@ use sheet_grid::Worksheet;
 use std::alloc::AllocError;
 
 fn put_text(out: &mut Vec<u8>, text: &str) -> Result<(), AllocError>
-    ensures spelled { OnOk result (out.new.items ≡ out.old.items ++ spell_text text.now) }
+    ensures encoded { OnOk result (out.new.items ≡ out.old.items ++ encode_text text.now) }
     ensures fits { OnOk result (FitsText text.now) }
 {
     let bytes = text.as_bytes();
@@ -28,8 +28,8 @@ fn put_text(out: &mut Vec<u8>, text: &str) -> Result<(), AllocError>
 
 /// Adds whether grid lines are drawn, and how many rows and columns are frozen.
 fn put_grid(out: &mut Vec<u8>, sheet: &Worksheet) -> Result<(), AllocError>
-    ensures spelled { OnOk result (out.new.items ≡ out.old.items
-        ++ (spell_code boolean_code sheet.now.show_grid_lines ++ (spell_signed w32 sheet.now.frozen_rows ++ spell_signed w32 sheet.now.frozen_columns))) }
+    ensures encoded { OnOk result (out.new.items ≡ out.old.items
+        ++ (encode_code boolean_code sheet.now.show_grid_lines ++ (encode_signed w32 sheet.now.frozen_rows ++ encode_signed w32 sheet.now.frozen_columns))) }
     ensures rows { OnOk result (FitsSigned w32 sheet.now.frozen_rows) }
     ensures columns { OnOk result (FitsSigned w32 sheet.now.frozen_columns) }
 {
@@ -41,7 +41,7 @@ fn put_grid(out: &mut Vec<u8>, sheet: &Worksheet) -> Result<(), AllocError>
 
 /// Adds the state and the colour of a sheet.
 fn put_tab(out: &mut Vec<u8>, sheet: &Worksheet) -> Result<(), AllocError>
-    ensures spelled { OnOk result (out.new.items ≡ out.old.items ++ (spell_code state_code sheet.now.state ++ spell_color sheet.now.color)) }
+    ensures encoded { OnOk result (out.new.items ≡ out.old.items ++ (encode_code state_code sheet.now.state ++ encode_color sheet.now.color)) }
     ensures fits { OnOk result (FitsColor sheet.now.color) }
 {
     StatePart::put(out, &sheet.state())?;
@@ -49,9 +49,9 @@ fn put_tab(out: &mut Vec<u8>, sheet: &Worksheet) -> Result<(), AllocError>
     Ok(())
 }
 
-#[tactic(auto, unfolding(crate::specs::SheetBytes::spell_fields))]
+#[tactic(auto, unfolding(crate::specs::SheetBytes::encode_fields))]
 fn put_fields(out: &mut Vec<u8>, sheet: &Worksheet) -> Result<(), AllocError>
-    ensures spelled { OnOk result (out.new.items ≡ out.old.items ++ spell_fields sheet.now) }
+    ensures encoded { OnOk result (out.new.items ≡ out.old.items ++ encode_fields sheet.now) }
     ensures fits { OnOk result (FitsFields sheet.now) }
 {
     u32::put(out, &sheet.get_sheet_id())?;
@@ -62,9 +62,9 @@ fn put_fields(out: &mut Vec<u8>, sheet: &Worksheet) -> Result<(), AllocError>
 }
 
 /// Adds rows, columns, cells, links, merges and conditional rules.
-#[tactic(auto, using(map_wire::specs::laws::MapFits::any_option), unfolding(crate::specs::SheetBytes::spell_entries))]
+#[tactic(auto, using(map_wire::specs::laws::MapFits::any_option), unfolding(crate::specs::SheetBytes::encode_entries))]
 fn put_entries(out: &mut Vec<u8>, sheet: &Worksheet) -> Result<(), AllocError>
-    ensures spelled { OnOk result (out.new.items ≡ out.old.items ++ spell_entries sheet.now) }
+    ensures encoded { OnOk result (out.new.items ≡ out.old.items ++ encode_entries sheet.now) }
     ensures fits { OnOk result (IsKnownSheet sheet.now → FitsEntries sheet.now) }
 {
     put_axis_map::<RowAxis, LinePart>(out, sheet.row_map())?;
@@ -76,9 +76,9 @@ fn put_entries(out: &mut Vec<u8>, sheet: &Worksheet) -> Result<(), AllocError>
     Ok(())
 }
 
-#[tactic(auto, unfolding(crate::specs::SheetBytes::spell_sheet))]
+#[tactic(auto, unfolding(crate::specs::SheetBytes::encode_sheet))]
 pub(crate) fn put_sheet(out: &mut Vec<u8>, sheet: &Worksheet) -> Result<(), AllocError>
-    ensures spelled { OnOk result (out.new.items ≡ out.old.items ++ spell_sheet sheet.now) }
+    ensures encoded { OnOk result (out.new.items ≡ out.old.items ++ encode_sheet sheet.now) }
     ensures fits { OnOk result (IsKnownSheet sheet.now → FitsSheet sheet.now) }
 {
     put_fields(out, sheet)?;

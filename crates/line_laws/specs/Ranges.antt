@@ -11,7 +11,7 @@ use Rattle.line_edits.specs.declared.edit.EditKind.{EditKind}
 use Rattle.line_edits.specs.declared.edit.EditKind.TheVariants.{Insert, Delete, Move}
 use Rattle.line_edits.specs.Moves.{is_between, place_image}
 use Rattle.line_routes.specs.Trees.{following, is_exposed, tree_carried}
-use Rattle.line_routes.specs.Way.{Way, at, place_goes}
+use Rattle.line_routes.specs.RouteModel.{RouteModel, at, place_goes}
 
 -- the edit is no move
 abbrev pub is_insertion_or_deletion : EditKind → Bool
@@ -37,14 +37,14 @@ pub record Holds (top_left bottom_right place : Position) : Type 0 where
   pub before : place.column ≤ℤ bottom_right.column
 
 -- a corner of the formula survives: it stands at a place, and this goes to an image
-pub record Survives (w : Way) (corner : Corner) : Type 0 where
+pub record Survives (w : RouteModel) (corner : Corner) : Type 0 where
   pub place : Position
   pub image : Position
   pub stands : corner_at w.from corner ≡ Some place
   pub goes : place_image w.along w.moves.to place ≡ Some image
 
 -- the image of a surviving place of the range
-pub record IsImage (w : Way) (first second : Corner) (image : Position) : Type 0 where
+pub record IsImage (w : RouteModel) (first second : Corner) (image : Position) : Type 0 where
   pub place : Position
   pub denoted : Denotes w.from first second place
   pub goes : place_image w.along w.moves.to place ≡ Some image
@@ -60,16 +60,16 @@ pub record IsLeastRange (formula : Position) (sheet : Option (List ℕ)) (carrie
       (place : Position) → Denotes formula first second place → Holds top_left bottom_right place
 
 -- a tree is carried along node by node
-abbrev pub GoesByNodes : Way → Type 0
+abbrev pub GoesByNodes : RouteModel → Type 0
 GoesByNodes w = (from to : Position) (tree : Node) → tree_carried (at w from to) tree ≡ fold-Node Node (move_layer to (following (at w from to))) tree
 
 -- what a range in a tree becomes
-abbrev pub range_carried : Way → Option (List ℕ) → Corner → Corner → Node
+abbrev pub range_carried : RouteModel → Option (List ℕ) → Corner → Corner → Node
 range_carried w sheet first second = move_layer w.to (following w) (layer.Range sheet first second)
 
 -- of a formula that goes from a place to a place: a range that is on the edited sheet and isn't whole along the axis, and whose corners
 -- survive, then denotes the least rectangle that holds the images of its surviving places
-abbrev pub RangesHoldImages : Way → Type 0
+abbrev pub RangesHoldImages : RouteModel → Type 0
 RangesHoldImages w =
     (from to : Position) → place_goes w from ≡ Some to →
     (sheet : Option (List ℕ)) (first second : Corner) → is_exposed (at w from to) sheet first second ≡ true →

@@ -7,7 +7,7 @@ ghost use Rattle.formula_move.specs.Lines.{shifted, stepped};
 ghost use Rattle.line_edits.specs.declared.EditKind.TheVariants.{Insert, Delete, Move};
 ghost use Rattle.line_edits.specs.Edit.{image_at, IsValid};
 ghost use Rattle.line_laws.specs.Ranges.{is_insertion_or_deletion, GoesByNodes, RangesHoldImages};
-ghost use Rattle.line_routes.specs.Way.{way};
+ghost use Rattle.line_routes.specs.RouteModel.{route_model};
 
 use base_axis::Axis;
 use line_edits::LineEdit;
@@ -31,9 +31,9 @@ pub fn displaced_as_edited<A: Axis>()
 /// docs/MODEL.md has the rules.
 pub fn ranges_hold_images<A: Axis>(route: &Route<'_, A, LineEdit<A>>)
     requires { is_insertion_or_deletion route.now.map.now.kind ≡ true }
-    ensures ranges { RangesHoldImages (way route.now) }
-    ensures nodes { GoesByNodes (way route.now) }
+    ensures ranges { RangesHoldImages (route_model route.now) }
+    ensures nodes { GoesByNodes (route_model route.now) }
 {
-    // For the proof: the route is a way.
-    route.is_way();
+    // For the proof: the route goes one to one.
+    route.is_route();
 }

@@ -1,8 +1,8 @@
 -- What an edit carries along by itself is regained from what was kept.
 use Rattle.std.specs.Prelude.{Option, IfSome}
-use Rattle.line_routes.specs.Way.{Way, back}
+use Rattle.line_routes.specs.RouteModel.{RouteModel, back}
 
 -- the value lies inside, and what was kept of it fits
-pub record Restores {F P : Type 0} (Lies : Way → F → Type 0) (Fits : Way → P → Type 0) (w : Way) (v : F) (kept : Option P) : Type 0 where
+pub record Restores {F P : Type 0} (Lies : RouteModel → F → Type 0) (Fits : RouteModel → P → Type 0) (w : RouteModel) (v : F) (kept : Option P) : Type 0 where
   pub lies : Lies (back w) v
   pub fits : IfSome kept (Fits w)

@@ -10,14 +10,14 @@ use Rattle.line_edits.specs.declared.Block.{Block}
 use Rattle.line_edits.specs.Edit.{amount}
 use Rattle.line_edits.specs.Moves.{is_brought}
 use Rattle.line_map.specs.Keys.{KeysAre}
-use Rattle.line_routes.specs.Way.{Way, back, is_along}
+use Rattle.line_routes.specs.RouteModel.{RouteModel, back, is_along}
 
 -- whether lines of an axis go along the map: those of the edited axis of the edited sheet
-abbrev pub line_goes_along : Along → Way → Bool
+abbrev pub line_goes_along : Along → RouteModel → Bool
 line_goes_along b w = w.is_edited && is_along w.along b
 
 -- where a line of an axis goes
-abbrev pub line_goes : Along → Way → ℤ → Option ℤ
+abbrev pub line_goes : Along → RouteModel → ℤ → Option ℤ
 line_goes b w n = if line_goes_along b w then w.moves.to n else Some n
 
 -- so many lines from a first one on, as far as they are lines of the axis
@@ -47,15 +47,15 @@ module _ {X : Type 0} where
       map_at (block_lines b.last inserted) (λ n. if is_brought inserted n && is_line b.last n then if_there inserted (line_brought b same m) else None)
 
   -- what was carried along, with what the lines have that are brought in
-  abbrev pub lines_brought : Along → (X → X → Bool) → Way → FinMap int_cmp X → FinMap int_cmp X → FinMap int_cmp X
+  abbrev pub lines_brought : Along → (X → X → Bool) → RouteModel → FinMap int_cmp X → FinMap int_cmp X → FinMap int_cmp X
   lines_brought b same w m carried = if line_goes_along b w then overlaid (heirs b same w.moves.inserted m) carried else carried
 
   -- the entries of lines go where their lines go, and lines that are brought in have what they take
-  abbrev pub lines_carried : Along → (X → X → Bool) → Way → FinMap int_cmp X → FinMap int_cmp X
+  abbrev pub lines_carried : Along → (X → X → Bool) → RouteModel → FinMap int_cmp X → FinMap int_cmp X
   lines_carried b same w m = lines_brought b same w m (moved_map (line_goes b w) (line_goes b (back w)) m)
 
   -- the entries of lines where their lines came from, with those that went nowhere
-  abbrev pub lines_restored : Along → Way → FinMap int_cmp X → FinMap int_cmp X → FinMap int_cmp X
+  abbrev pub lines_restored : Along → RouteModel → FinMap int_cmp X → FinMap int_cmp X → FinMap int_cmp X
   lines_restored b w m lost = overlaid (if line_goes_along b w then lost else empty) (moved_map (line_goes b (back w)) (line_goes b w) m)
 
   -- every entry is that of a line of the axis

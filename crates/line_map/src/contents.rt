@@ -3,7 +3,7 @@ ghost use Rattle.base_values.specs.declared.EditError.TheVariants.{NoMemory};
 ghost use Rattle.cell_content.specs.Lens.{tree_of};
 ghost use Rattle.line_map.specs.Contents.{cell_carried, cell_part};
 ghost use Rattle.line_routes.specs.Trees.{TreeLies};
-ghost use Rattle.line_routes.specs.Way.{way};
+ghost use Rattle.line_routes.specs.RouteModel.{route_model};
 
 use crate::follower::Follower;
 use base_axis::Axis;
@@ -96,7 +96,7 @@ fn moved_cell<A: Axis, M: LineMap<A>>(
     tree: &Node,
 ) -> Result<Shared<Cell>, EditError>
     requires { tree_of cell.now.content ≡ Some tree.now }
-    ensures cell { IfOk result (λ carried. carried ≡ cell_carried (way route.now) cell.now) }
+    ensures cell { IfOk result (λ carried. carried ≡ cell_carried (route_model route.now) cell.now) }
     ensures only { IsOkUnless result NoMemory }
 {
     let tree = Shared::new(alloc, carried_node(alloc, route, tree)?)?;
@@ -111,7 +111,7 @@ fn carried_cell<A: Axis, M: LineMap<A>>(
     tree: &Node,
 ) -> Result<Shared<Cell>, EditError>
     requires { tree_of cell.now.content ≡ Some tree.now }
-    ensures cell { IfOk result (λ carried. carried ≡ cell_carried (way route.now) cell.now) }
+    ensures cell { IfOk result (λ carried. carried ≡ cell_carried (route_model route.now) cell.now) }
     ensures only { IsOkUnless result NoMemory }
 {
     if stays(route, tree) {
@@ -129,13 +129,13 @@ fn carried_cell_with_part<A: Axis, M: LineMap<A>>(
     tree: &Shared<Node>,
 ) -> Result<(Shared<Cell>, Option<Shared<Node>>), EditError>
     requires tree { tree_of cell.now.content ≡ Some tree.now }
-    requires lies { TreeLies (way route.now) tree.now }
-    ensures cell { IfOk result (λ both. both.0 ≡ cell_carried (way route.now) cell.now) }
-    ensures part { IfOk result (λ both. both.1 ≡ cell_part (way route.now) cell.now) }
+    requires lies { TreeLies (route_model route.now) tree.now }
+    ensures cell { IfOk result (λ both. both.0 ≡ cell_carried (route_model route.now) cell.now) }
+    ensures part { IfOk result (λ both. both.1 ≡ cell_part (route_model route.now) cell.now) }
     ensures only { IsOkUnless result NoMemory }
 {
-    // For the proof: the route is a way.
-    route.is_way();
+    // For the proof: the route goes one to one.
+    route.is_route();
     if stays(route, tree.get()) {
         return Ok((copy_of(cell)?, None));
     }

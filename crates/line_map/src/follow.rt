@@ -65,22 +65,22 @@ pub trait Follow<A: Axis>: Exact + Drop {
 impl<A: Axis, F: Follower<A> + Exact> Follow<A> for F {
     ghost use Rattle.base_maps.specs.Carried.{settled};
     ghost use Rattle.line_map.specs.Alone.{Restores};
-    ghost use Rattle.line_routes.specs.EditWay.{edit_way};
-    ghost use Rattle.line_routes.specs.Way.{back};
+    ghost use Rattle.line_routes.specs.EditRoute.{edit_route};
+    ghost use Rattle.line_routes.specs.RouteModel.{back};
     ghost use Rattle.line_map.specs.laws.AloneLaws.{kept_restores, kept_fits};
-    ghost use Rattle.line_routes.specs.laws.WayLaws.{edit_is_way};
+    ghost use Rattle.line_routes.specs.laws.RouteLaws.{edit_is_route};
 
     type Kept = Option<F::Part>;
 
-    ghost Lies = { λ e. F.Lies (edit_way A.along e) };
+    ghost Lies = { λ e. F.Lies (edit_route A.along e) };
 
-    ghost Restores = { λ e. Restores F.Lies F.Fits (edit_way A.along e) };
+    ghost Restores = { λ e. Restores F.Lies F.Fits (edit_route A.along e) };
 
-    ghost follow_of = { λ e. F.carry_of (edit_way A.along e) };
+    ghost follow_of = { λ e. F.carry_of (edit_route A.along e) };
 
-    ghost kept_of = { λ e. F.part_of (edit_way A.along e) };
+    ghost kept_of = { λ e. F.part_of (edit_route A.along e) };
 
-    ghost regain_of = { λ e v kept. settled (F.carry_of (back (edit_way A.along e))) (F.restore_of (edit_way A.along e)) kept v };
+    ghost regain_of = { λ e v kept. settled (F.carry_of (back (edit_route A.along e))) (F.restore_of (edit_route A.along e)) kept v };
 
     fn follow(&self, alloc: Global, edit: &LineEdit<A>) -> Result<F, EditError> {
         let opposite = edit.opposite();
@@ -102,9 +102,9 @@ impl<A: Axis, F: Follower<A> + Exact> Follow<A> for F {
         regained(alloc, &edit_route(edit, &opposite), self, kept.as_ref())
     }
 
-    ghost fits = { λ e valid v lies. kept_fits F.Lies F.carry_of F.part_of (edit_way A.along e) (edit_is_way A.along A.lawful e valid) F.Fits F.stays F.part_fits v lies };
+    ghost fits = { λ e valid v lies. kept_fits F.Lies F.carry_of F.part_of (edit_route A.along e) (edit_is_route A.along A.lawful e valid) F.Fits F.stays F.part_fits v lies };
 
-    ghost regains = { λ e valid v lies. kept_restores F.Lies F.carry_of F.part_of (edit_way A.along e) (edit_is_way A.along A.lawful e valid) F.restore_of F.comes_back F.restores v lies };
+    ghost regains = { λ e valid v lies. kept_restores F.Lies F.carry_of F.part_of (edit_route A.along e) (edit_is_route A.along A.lawful e valid) F.restore_of F.comes_back F.restores v lies };
 }
 
 /// The law of followers: a value that is carried along and regained is the value.

@@ -3,8 +3,8 @@ ghost use Rattle.std.specs.List.{All};
 ghost use Rattle.base_values.specs.declared.EditError.TheVariants.{NoMemory};
 ghost use Rattle.base_axis.specs.Rectangles.{IsInside};
 ghost use Rattle.format_rules.specs.Fitting.{StandsInside};
-ghost use Rattle.line_routes.specs.Way.{way};
-ghost use Rattle.line_map.specs.Rules.{at_part, way_of_trees, formatting_moved, formatting_carried, formatting_part};
+ghost use Rattle.line_routes.specs.RouteModel.{route_model};
+ghost use Rattle.line_map.specs.Rules.{at_part, route_of_trees, formatting_moved, formatting_carried, formatting_part};
 
 use crate::follower::Follower;
 use base_axis::{Axis, MergedCell};
@@ -24,11 +24,11 @@ struct Following<'r, 'a, A: Axis, M: LineMap<A>> {
 
 impl<'r, 'a, A: Axis, M: LineMap<A>> TreeChange for Following<'r, 'a, A, M> {
     ghost use Rattle.line_routes.specs.Trees.{TreeLies, tree_carried};
-    ghost use Rattle.line_routes.specs.Way.{way};
+    ghost use Rattle.line_routes.specs.RouteModel.{route_model};
 
-    ghost Takes = { λ self. TreeLies (way self.route.now) };
+    ghost Takes = { λ self. TreeLies (route_model self.route.now) };
 
-    ghost change_of = { λ self. tree_carried (way self.route.now) };
+    ghost change_of = { λ self. tree_carried (route_model self.route.now) };
 
     fn changed(&self, alloc: Global, tree: &Shared<Node>) -> Result<Shared<Node>, EditError> {
         tree.carry(alloc, self.route)
@@ -43,11 +43,11 @@ fn route_with<'a, A: Axis, M: LineMap<A>>(
     part: MergedCell,
 ) -> Result<Route<'a, A, M>, EditError>
     requires { IsInside part }
-    ensures route { IfOk result (λ output. way output ≡ at_part (way route.now) part) }
+    ensures route { IfOk result (λ output. route_model output ≡ at_part (route_model route.now) part) }
     ensures only { IsOkUnless result NoMemory }
 {
-    // For the proof: the route is a way.
-    route.is_way();
+    // For the proof: the route goes one to one.
+    route.is_route();
     let there = part.carry(alloc, route)?;
     Ok(route.at(part.anchor_place(), there.anchor_place()))
 }
@@ -59,7 +59,7 @@ fn route_of_trees<'a, A: Axis, M: LineMap<A>>(
     parts: &[MergedCell],
 ) -> Result<Route<'a, A, M>, EditError>
     requires { All IsInside parts.now }
-    ensures route { IfOk result (λ output. way output ≡ way_of_trees (way route.now) parts.now) }
+    ensures route { IfOk result (λ output. route_model output ≡ route_of_trees (route_model route.now) parts.now) }
     ensures only { IsOkUnless result NoMemory }
 {
     match parts {
@@ -75,7 +75,7 @@ fn moved_formatting<A: Axis, M: LineMap<A>>(
     formatting: &ConditionalFormatting,
 ) -> Result<ConditionalFormatting, EditError>
     requires { StandsInside formatting.now }
-    ensures value { IfOk result (λ output. output ≡ formatting_moved (way route.now) formatting.now) }
+    ensures value { IfOk result (λ output. output ≡ formatting_moved (route_model route.now) formatting.now) }
     ensures only { IsOkUnless result NoMemory }
 {
     let there = route_of_trees(alloc, route, formatting.parts.as_slice())?;
@@ -96,7 +96,7 @@ pub(crate) fn carried_formatting<A: Axis, M: LineMap<A>>(
     formatting: &ConditionalFormatting,
 ) -> Result<ConditionalFormatting, EditError>
     requires { StandsInside formatting.now }
-    ensures value { IfOk result (λ output. output ≡ formatting_carried (way route.now) formatting.now) }
+    ensures value { IfOk result (λ output. output ≡ formatting_carried (route_model route.now) formatting.now) }
     ensures only { IsOkUnless result NoMemory }
 {
     if route.is_edited {
@@ -114,11 +114,11 @@ pub(crate) fn formatting_part<A: Axis, M: LineMap<A>>(
     formatting: &ConditionalFormatting,
 ) -> Result<Option<ConditionalFormatting>, EditError>
     requires { StandsInside formatting.now }
-    ensures part { IfOk result (λ part. part ≡ formatting_part (way route.now) formatting.now) }
+    ensures part { IfOk result (λ part. part ≡ formatting_part (route_model route.now) formatting.now) }
     ensures only { IsOkUnless result NoMemory }
 {
-    // For the proof: the route is a way.
-    route.is_way();
+    // For the proof: the route goes one to one.
+    route.is_route();
     let there = carried_formatting(alloc, route, formatting)?;
     if carried_formatting(alloc, &route.back(), &there)? == *formatting {
         return Ok(None);

@@ -10,7 +10,7 @@ ghost use Rattle.base_maps.specs.laws.Gathering.{with_made};
 ghost use Rattle.line_edits.specs.Edit.{amount};
 ghost use Rattle.line_map.specs.Attributes.{block_lines, heir, heirs, line_brought, line_goes_along, LinesLie};
 ghost use Rattle.line_map.specs.laws.HeirLaws.{Filled};
-ghost use Rattle.line_routes.specs.Way.{way};
+ghost use Rattle.line_routes.specs.RouteModel.{route_model};
 
 use crate::follower::Follower;
 use crate::restored::put_copy;
@@ -23,7 +23,7 @@ use line_routes::Route;
 
 /// Whether the lines of an axis go along a route: those of the edited axis of the edited sheet.
 pub fn goes_along<A: Axis, B: Axis, M: LineMap<A>>(route: &Route<'_, A, M>) -> bool
-    ensures { result ≡ line_goes_along B.along (way route.now) }
+    ensures { result ≡ line_goes_along B.along (route_model route.now) }
 {
     route.is_edited && A::of(B::of(true, false), B::of(false, true))
 }

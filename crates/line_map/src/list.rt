@@ -10,7 +10,7 @@ impl<A: Axis, F: Follower<A>> Follower<A> for Items<F> {
     ghost use Rattle.std.specs.Prelude.{map, Some, IfSome};
     ghost use Rattle.std.specs.List.{All};
     ghost use Rattle.line_map.specs.Lists.{items_restored};
-    ghost use Rattle.line_routes.specs.Way.{back};
+    ghost use Rattle.line_routes.specs.RouteModel.{back};
     ghost use Rattle.line_map.specs.laws.ListLaws.{items_stay, parts_fit, items_restore};
 
     /// The part of each item.

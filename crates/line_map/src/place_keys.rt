@@ -9,7 +9,7 @@ use line_routes::Route;
 /// Places of a sheet go along on the edited sheet. Where places are brought in, nothing stands.
 impl<A: Axis, F: Follower<A>> RouteKeys<A, F> for PlaceKeys<F> {
     ghost use Rattle.base_values.specs.Places.{IsPlace};
-    ghost use Rattle.line_routes.specs.Way.{at, place_goes};
+    ghost use Rattle.line_routes.specs.RouteModel.{at, place_goes};
     ghost use Rattle.line_map.specs.laws.MapLaws.{brings_nothing, place_keys};
 
     type Lost = PositionKeys<F>;

@@ -7,7 +7,7 @@ ghost use Rattle.base_values.specs.declared.EditError.TheVariants.{NoMemory};
 ghost use Rattle.base_maps.specs.Carried.{overlaid};
 ghost use Rattle.line_map.specs.Keys.{KeysAre, rekeyed};
 ghost use Rattle.line_map.specs.Maps.{AllLie, PartsFit, entries_restored, lost_along, restored_entry};
-ghost use Rattle.line_routes.specs.Way.{back, way};
+ghost use Rattle.line_routes.specs.RouteModel.{back, route_model};
 
 use crate::follower::{Follower, regained};
 use crate::kept::Parts;
@@ -33,13 +33,13 @@ fn restored_entry<
     item: &F,
 ) -> Result<Option<(K::Key, F)>, EditError>
     requires inside { K.fits to }
-    requires lies { (from : K.Key) → K.goes (back (way route.now)) to ≡ Some from → F.Lies (K.at (back (way route.now)) to from) item.now }
-    requires fit { PartsFit K.goes K.at F.Fits (way route.now) (L.part_at parts.now) }
-    ensures entry { IfOk result (λ entry. entry ≡ restored_entry K.goes K.at F.carry_of F.restore_of (way route.now) (L.part_at parts.now) (to, item.now)) }
+    requires lies { (from : K.Key) → K.goes (back (route_model route.now)) to ≡ Some from → F.Lies (K.at (back (route_model route.now)) to from) item.now }
+    requires fit { PartsFit K.goes K.at F.Fits (route_model route.now) (L.part_at parts.now) }
+    ensures entry { IfOk result (λ entry. entry ≡ restored_entry K.goes K.at F.carry_of F.restore_of (route_model route.now) (L.part_at parts.now) (to, item.now)) }
     ensures only { IsOkUnless result NoMemory }
 {
-    // For the proof: the route is a way.
-    route.is_way();
+    // For the proof: the route goes one to one.
+    route.is_route();
     let Some(from) = K::goes(&route.back(), to) else {
         return Ok(None);
     };
@@ -61,13 +61,13 @@ fn restored_entries<
     parts: &L,
     map: &KeyMap<K, F>,
 ) -> Result<KeyMap<K, F>, EditError>
-    requires lie { AllLie K.goes K.at K.fits F.Lies (back (way route.now)) (K.seen map.now) }
-    requires fit { PartsFit K.goes K.at F.Fits (way route.now) (L.part_at parts.now) }
-    ensures map { IfOk result (λ output. K.seen output ≡ entries_restored K.goes K.at F.carry_of F.restore_of (way route.now) (L.part_at parts.now) (K.seen map.now)) }
+    requires lie { AllLie K.goes K.at K.fits F.Lies (back (route_model route.now)) (K.seen map.now) }
+    requires fit { PartsFit K.goes K.at F.Fits (route_model route.now) (L.part_at parts.now) }
+    ensures map { IfOk result (λ output. K.seen output ≡ entries_restored K.goes K.at F.carry_of F.restore_of (route_model route.now) (L.part_at parts.now) (K.seen map.now)) }
     ensures only { IsOkUnless result NoMemory }
 {
-    // For the proof: the route is a way.
-    route.is_way();
+    // For the proof: the route goes one to one.
+    route.is_route();
     let mut output = Items::empty(alloc);
     for (to, item) in map.iter() {
         let entry = restored_entry::<A, M, F, K, L>(alloc, route, parts, *to, item)?;
@@ -123,10 +123,10 @@ pub fn restored_map<
     parts: &L,
     map: &KeyMap<K, F>,
 ) -> Result<KeyMap<K, F>, EditError>
-    requires lie { AllLie K.goes K.at K.fits F.Lies (back (way route.now)) (K.seen map.now) }
+    requires lie { AllLie K.goes K.at K.fits F.Lies (back (route_model route.now)) (K.seen map.now) }
     requires inside { along ≡ true → KeysAre K.fits (K.Lost.seen lost.now) }
-    requires fit { PartsFit K.goes K.at F.Fits (way route.now) (L.part_at parts.now) }
-    ensures map { IfOk result (λ output. K.seen output ≡ overlaid (rekeyed (lost_along along (K.Lost.seen lost.now))) (entries_restored K.goes K.at F.carry_of F.restore_of (way route.now) (L.part_at parts.now) (K.seen map.now))) }
+    requires fit { PartsFit K.goes K.at F.Fits (route_model route.now) (L.part_at parts.now) }
+    ensures map { IfOk result (λ output. K.seen output ≡ overlaid (rekeyed (lost_along along (K.Lost.seen lost.now))) (entries_restored K.goes K.at F.carry_of F.restore_of (route_model route.now) (L.part_at parts.now) (K.seen map.now))) }
     ensures only { IsOkUnless result NoMemory }
 {
     let output = restored_entries(alloc, route, parts, map)?;

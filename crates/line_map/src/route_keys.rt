@@ -1,7 +1,7 @@
 ghost use Rattle.std.specs.Prelude.{◌≡◌, IfSome, IsOkUnless, OnOk, Option};
 ghost use Rattle.base_values.specs.declared.EditError.TheVariants.{NoMemory};
 ghost use Rattle.line_map.specs.Keys.{AreKeys, BringsBeside, KeysAre};
-ghost use Rattle.line_routes.specs.Way.{Way, way};
+ghost use Rattle.line_routes.specs.RouteModel.{RouteModel, route_model};
 
 use crate::follower::Follower;
 use base_axis::Axis;
@@ -17,17 +17,17 @@ pub trait RouteKeys<A: Axis, F: Follower<A>>: MapKey<F> {
     /// The keys of parts that are kept, which may lie outside the sheet.
     type Parts: MapKey<F::Part, Key = Self::Key>;
 
-    ghost goes: { Way → Self.Key → Option Self.Key };
+    ghost goes: { RouteModel → Self.Key → Option Self.Key };
 
-    ghost at: { Way → Self.Key → Self.Key → Way };
+    ghost at: { RouteModel → Self.Key → Self.Key → RouteModel };
 
     /// What was carried along of a map, with what the keys have that are brought in.
-    ghost with_brought: { Way → Self → Self → Self };
+    ghost with_brought: { RouteModel → Self → Self → Self };
 
     /// Where a key goes.
     fn goes<M: LineMap<A>>(route: &Route<'_, A, M>, key: Self::Key) -> Option<Self::Key>
         requires { Self.fits key }
-        ensures value { result ≡ goes (way route.now) key }
+        ensures value { result ≡ goes (route_model route.now) key }
         ensures inside { IfSome result Self.fits };
 
     /// The route of what goes from a key to a key.
@@ -38,7 +38,7 @@ pub trait RouteKeys<A: Axis, F: Follower<A>>: MapKey<F> {
     ) -> Route<'a, A, M>
         requires from { Self.fits from }
         requires to { Self.fits to }
-        ensures { way result ≡ at (way route.now) from to };
+        ensures { route_model result ≡ at (route_model route.now) from to };
 
     /// Gives the keys that are brought in what they take from the map before. `NoMemory` is the only
     /// error, after which some of them may have it.
@@ -48,7 +48,7 @@ pub trait RouteKeys<A: Axis, F: Follower<A>>: MapKey<F> {
         carried: &mut KeyMap<Self, F>,
     ) -> Result<(), EditError>
         requires { KeysAre Self.fits (Self.seen map.now) }
-        ensures carried { OnOk result (carried.new ≡ with_brought (way route.now) map.now carried.old) }
+        ensures carried { OnOk result (carried.new ≡ with_brought (route_model route.now) map.now carried.old) }
         ensures only { IsOkUnless result NoMemory };
 
     ghost are_keys: { AreKeys Self.MapKey.order Self.fits goes at };

@@ -7,7 +7,7 @@ ghost use Rattle.base_maps.specs.Carried.{settled};
 ghost use Rattle.base_maps.specs.laws.Gathering.{with_made};
 ghost use Rattle.base_values.specs.declared.EditError.TheVariants.{NoMemory};
 ghost use Rattle.format_rules.specs.Fitting.{StandsInside};
-ghost use Rattle.line_routes.specs.Way.{back, way};
+ghost use Rattle.line_routes.specs.RouteModel.{back, route_model};
 ghost use Rattle.base_maps.specs.ByIndex.{kept_at, restored_at};
 ghost use Rattle.line_map.specs.Canonical.{AreCanonicalKept};
 ghost use Rattle.line_map.specs.Rules.{RulesLie, formatting_carried, formatting_part, rules_carried, rules_kept, rules_restored};
@@ -27,7 +27,7 @@ pub(crate) fn carried_items<A: Axis, M: LineMap<A>>(
     rules: &[ConditionalFormatting],
 ) -> Result<Items<ConditionalFormatting>, EditError>
     requires { RulesLie rules.now }
-    ensures rules { IfOk result (λ output. output ≡ rules_carried (way route.now) rules.now) }
+    ensures rules { IfOk result (λ output. output ≡ rules_carried (route_model route.now) rules.now) }
     ensures only { IsOkUnless result NoMemory }
 {
     let mut output = Items::empty(alloc);
@@ -46,7 +46,7 @@ fn keep_formatting<A: Axis, M: LineMap<A>>(
     kept: &mut IndexMap<ConditionalFormatting>,
 ) -> Result<(), EditError>
     requires { StandsInside formatting.now }
-    ensures kept { OnOk result (kept.new ≡ with_made (kept_at (formatting_part (way route.now)) (place, formatting.now)) kept.old) }
+    ensures kept { OnOk result (kept.new ≡ with_made (kept_at (formatting_part (route_model route.now)) (place, formatting.now)) kept.old) }
     ensures only { IsOkUnless result NoMemory }
 {
     if let Some(part) = formatting_part(alloc, route, formatting)? {
@@ -61,7 +61,7 @@ pub(crate) fn kept_items<A: Axis, M: LineMap<A>>(
     rules: &[ConditionalFormatting],
 ) -> Result<IndexMap<ConditionalFormatting>, EditError>
     requires { RulesLie rules.now }
-    ensures kept { IfOk result (λ kept. kept ≡ rules_kept (way route.now) rules.now) }
+    ensures kept { IfOk result (λ kept. kept ≡ rules_kept (route_model route.now) rules.now) }
     ensures only { IsOkUnless result NoMemory }
 {
     let mut kept = IndexMap::new(alloc);
@@ -79,7 +79,7 @@ fn settled_formatting<A: Axis, M: LineMap<A>>(
     kept: Option<&ConditionalFormatting>,
 ) -> Result<ConditionalFormatting, EditError>
     requires { StandsInside formatting.now }
-    ensures value { IfOk result (λ output. output ≡ settled (formatting_carried (back (way route.now))) (λ _ own. own) (option_copied kept.entry) formatting.now) }
+    ensures value { IfOk result (λ output. output ≡ settled (formatting_carried (back (route_model route.now))) (λ _ own. own) (option_copied kept.entry) formatting.now) }
     ensures only { IsOkUnless result NoMemory }
 {
     match kept {
@@ -97,7 +97,7 @@ fn restored_formatting<A: Axis, M: LineMap<A>>(
     kept: &IndexMap<ConditionalFormatting>,
 ) -> Result<ConditionalFormatting, EditError>
     requires { StandsInside formatting.now }
-    ensures value { IfOk result (λ output. output ≡ restored_at (formatting_carried (back (way route.now))) (λ _ own. own) (get kept.now) (place, formatting.now)) }
+    ensures value { IfOk result (λ output. output ≡ restored_at (formatting_carried (back (route_model route.now))) (λ _ own. own) (get kept.now) (place, formatting.now)) }
     ensures only { IsOkUnless result NoMemory }
 {
     settled_formatting(alloc, route, formatting, kept.get(place as u64))
@@ -110,7 +110,7 @@ pub(crate) fn restored_items<A: Axis, M: LineMap<A>>(
     kept: &IndexMap<ConditionalFormatting>,
 ) -> Result<Items<ConditionalFormatting>, EditError>
     requires { RulesLie rules.now }
-    ensures rules { IfOk result (λ output. output ≡ rules_restored (way route.now) kept.now rules.now) }
+    ensures rules { IfOk result (λ output. output ≡ rules_restored (route_model route.now) kept.now rules.now) }
     ensures only { IsOkUnless result NoMemory }
 {
     let mut output = Items::empty(alloc);
@@ -129,12 +129,12 @@ pub fn carried_rules<A: Axis, M: LineMap<A>>(
     rules: &RuleList,
 ) -> Result<RuleList, EditError>
     requires { RulesLie rules.now }
-    ensures rules { IfOk result (λ output. output ≡ rules_carried (way route.now) rules.now) }
+    ensures rules { IfOk result (λ output. output ≡ rules_carried (route_model route.now) rules.now) }
     ensures inside { IfOk result RulesLie }
     ensures only { IsOkUnless result NoMemory }
 {
-    // For the proof: the route is a way.
-    route.is_way();
+    // For the proof: the route goes one to one.
+    route.is_route();
     let output = carried_items(alloc, route, rules.as_slice())?;
     Ok(RuleList::new(output))
 }
@@ -147,7 +147,7 @@ pub fn kept_rules<A: Axis, M: LineMap<A>>(
     rules: &RuleList,
 ) -> Result<IndexMap<ConditionalFormatting>, EditError>
     requires { RulesLie rules.now }
-    ensures kept { IfOk result (λ kept. kept ≡ rules_kept (way route.now) rules.now) }
+    ensures kept { IfOk result (λ kept. kept ≡ rules_kept (route_model route.now) rules.now) }
     ensures numbers { IfOk result AreCanonicalKept }
     ensures only { IsOkUnless result NoMemory }
 {
@@ -164,7 +164,7 @@ pub fn restored_rules<A: Axis, M: LineMap<A>>(
 ) -> Result<RuleList, EditError>
     requires lie { RulesLie rules.now }
     requires numbers { AreCanonicalKept kept.now }
-    ensures rules { IfOk result (λ output. output ≡ rules_restored (way route.now) kept.now rules.now) }
+    ensures rules { IfOk result (λ output. output ≡ rules_restored (route_model route.now) kept.now rules.now) }
     ensures only { IsOkUnless result NoMemory }
 {
     let output = restored_items(alloc, route, rules.as_slice(), kept)?;

@@ -1,5 +1,5 @@
-pub mod Way
-pub mod EditWay
+pub mod RouteModel
+pub mod EditRoute
 pub mod Trial
 pub mod MergedCells
 pub mod Merges

@@ -6,7 +6,7 @@ use Rattle.base_axis.specs.declared.MergedCell.{MergedCell}
 use Rattle.base_axis.specs.contracts.merged_cell.MergedCellPartialEq.TheImpl as equality
 use Rattle.base_axis.specs.Rectangles.{anchor_place, last_place}
 use Rattle.line_routes.specs.Trial.{part_by_trial}
-use Rattle.line_routes.specs.Way.{Way, place_goes}
+use Rattle.line_routes.specs.RouteModel.{RouteModel, place_goes}
 
 abbrev pub lesser : ℤ → ℤ → ℤ
 lesser m n = if int_lt n m then n else m
@@ -28,9 +28,9 @@ moved_to cell (Some first) (Some last) = between first last
 moved_to cell (Some first) None = cell
 moved_to cell None last = cell
 
-unfoldable pub merged_cell_carried : Way → MergedCell → MergedCell
+unfoldable pub merged_cell_carried : RouteModel → MergedCell → MergedCell
 merged_cell_carried w cell = moved_to cell (place_goes w (anchor_place cell)) (place_goes w (last_place cell))
 
 -- the rectangle, where the way back does not give it
-abbrev pub merged_cell_part : Way → MergedCell → Option MergedCell
+abbrev pub merged_cell_part : RouteModel → MergedCell → Option MergedCell
 merged_cell_part w cell = part_by_trial equality.ghosts.eq merged_cell_carried w cell

@@ -9,34 +9,34 @@ use Rattle.line_routes.specs.declared.tree_at.TreeAt.{TreeAt}
 use Rattle.line_routes.specs.contracts.tree_at.TreeAtPartialEq.TheImpl as equality
 use Rattle.line_routes.specs.Trees.{tree_carried}
 use Rattle.line_routes.specs.Trial.{part_by_trial}
-use Rattle.line_routes.specs.Way.{Way, at, place_goes}
+use Rattle.line_routes.specs.RouteModel.{RouteModel, at, place_goes}
 
 -- a tree at a place of a sheet with this name
 abbrev pub tree_at : Node → List ℕ → Position → List ℕ → TreeAt
 tree_at node sheet place edited = record { node = node; sheet = sheet; place = place; edited = edited }
 
 -- how the map meets the tree's sheet: it is the edited one where their names are equal by folding
-abbrev pub way_on_tree : Way → TreeAt → Way
-way_on_tree w t = record w { edited = t.edited; is_edited = same_folded t.sheet t.edited }
+abbrev pub route_on_tree : RouteModel → TreeAt → RouteModel
+route_on_tree w t = record w { edited = t.edited; is_edited = same_folded t.sheet t.edited }
 
 -- how it meets the tree, whose cell goes to that place
-abbrev pub way_of_tree : Way → TreeAt → Position → Way
-way_of_tree w t to = at (way_on_tree w t) t.place to
+abbrev pub route_of_tree : RouteModel → TreeAt → Position → RouteModel
+route_of_tree w t to = at (route_on_tree w t) t.place to
 
 -- where the tree's cell goes: on the edited sheet along the map
-unfoldable pub tree_goes : Way → TreeAt → Option Position
-tree_goes w t = place_goes (way_on_tree w t) t.place
+unfoldable pub tree_goes : RouteModel → TreeAt → Option Position
+tree_goes w t = place_goes (route_on_tree w t) t.place
 
 -- the tree carried along. It stays whole where its cell goes nowhere
-abbrev pub tree_at_moved : Way → TreeAt → Option Position → TreeAt
+abbrev pub tree_at_moved : RouteModel → TreeAt → Option Position → TreeAt
 tree_at_moved w t None = t
-tree_at_moved w t (Some to) = record t { node = tree_carried (way_of_tree w t to) t.node; place = to }
+tree_at_moved w t (Some to) = record t { node = tree_carried (route_of_tree w t to) t.node; place = to }
 
-unfoldable pub tree_at_carried : Way → TreeAt → TreeAt
+unfoldable pub tree_at_carried : RouteModel → TreeAt → TreeAt
 tree_at_carried w t = tree_at_moved w t (tree_goes w t)
 
 -- what is kept: the tree, where its cell goes nowhere, or the way back does not give it
-abbrev pub tree_at_part : Way → TreeAt → Option TreeAt
+abbrev pub tree_at_part : RouteModel → TreeAt → Option TreeAt
 tree_at_part w t = if is_none (tree_goes w t) then Some t else part_by_trial equality.ghosts.eq tree_at_carried w t
 
 -- its cell is one of the sheet, its corners lie inside, and those of each range are in order

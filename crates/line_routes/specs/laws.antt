@@ -1,4 +1,4 @@
-pub mod WayLaws
+pub mod RouteLaws
 pub mod TrialLaws
 pub mod MergedCellLaws
 pub mod MergeLaws

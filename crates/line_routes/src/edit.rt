@@ -1,7 +1,7 @@
 ghost use Rattle.std.specs.Prelude.{◌≡◌};
 ghost use Rattle.line_edits.specs.Edit.{IsValid, opposite_of};
-ghost use Rattle.line_routes.specs.EditWay.{edit_way};
-ghost use Rattle.line_routes.specs.Way.{way};
+ghost use Rattle.line_routes.specs.EditRoute.{edit_route};
+ghost use Rattle.line_routes.specs.RouteModel.{route_model};
 
 use crate::route::Route;
 use base_axis::Axis;
@@ -16,7 +16,7 @@ pub fn edit_route<'e, A: Axis>(
 ) -> Route<'e, A, LineEdit<A>>
     requires valid { IsValid A.along.last edit.now.kind }
     requires opposite { opposite.now.kind ≡ opposite_of edit.now.kind }
-    ensures { way result ≡ edit_way A.along edit.now.kind }
+    ensures { route_model result ≡ edit_route A.along edit.now.kind }
 {
     let first = Position { row: 1, column: 1 };
     Route {

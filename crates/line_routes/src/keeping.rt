@@ -3,10 +3,10 @@ ghost use Rattle.std.specs.Bool.{Decides};
 ghost use Rattle.base_values.specs.Places.{IsPlace};
 ghost use Rattle.formula_tree.specs.Placed.{is_placed};
 ghost use Rattle.line_edits.specs.Edit.{IsValid};
-ghost use Rattle.line_routes.specs.EditWay.{edit_way};
+ghost use Rattle.line_routes.specs.EditRoute.{edit_route};
 ghost use Rattle.line_routes.specs.MustKeep.{keeps_reference, is_given_up, keeps_range, must_keep, must_keep_tree, must_keep_at, there_and_back};
 ghost use Rattle.line_routes.specs.TreeAt.{tree_goes, tree_at};
-ghost use Rattle.line_routes.specs.Way.{way};
+ghost use Rattle.line_routes.specs.RouteModel.{route_model};
 
 use crate::edit::edit_route;
 use crate::route::Route;
@@ -25,7 +25,7 @@ fn keeps_reference<A: Axis, M: LineMap<A>>(
     sheet: &Option<Shared<Text>>,
     corner: Corner,
 ) -> bool
-    ensures { result ≡ keeps_reference (way route.now) sheet.now corner }
+    ensures { result ≡ keeps_reference (route_model route.now) sheet.now corner }
 {
     is_on_edited(route, sheet) && moved_corner(route, true, corner).is_none()
 }
@@ -37,7 +37,7 @@ fn is_given_up<A: Axis, M: LineMap<A>>(
     first: Option<Corner>,
     second: Option<Corner>,
 ) -> bool
-    ensures { result ≡ is_given_up (way route.now) first second }
+    ensures { result ≡ is_given_up (route_model route.now) first second }
 {
     match (first, second) {
         (Some(first), Some(second)) => {
@@ -57,7 +57,7 @@ fn keeps_range<A: Axis, M: LineMap<A>>(
     first: Corner,
     second: Corner,
 ) -> bool
-    ensures { result ≡ keeps_range (way route.now) sheet.now first second }
+    ensures { result ≡ keeps_range (route_model route.now) sheet.now first second }
 {
     if !is_exposed(route, sheet, first, second) {
         return false;
@@ -71,9 +71,9 @@ fn keeps_range<A: Axis, M: LineMap<A>>(
 
 impl<'r, 'a, A: Axis, M: LineMap<A>> LeafTest for Following<'r, 'a, A, M> {
     ghost use Rattle.line_routes.specs.MustKeep.{kept_leaves};
-    ghost use Rattle.line_routes.specs.Way.{way};
+    ghost use Rattle.line_routes.specs.RouteModel.{route_model};
 
-    ghost tests = { λ self. kept_leaves (way self.route.now) };
+    ghost tests = { λ self. kept_leaves (route_model self.route.now) };
 
     fn reference(&self, sheet: &Option<Shared<Text>>, corner: Corner) -> bool {
         keeps_reference(self.route, sheet, corner)
@@ -91,7 +91,7 @@ impl<'r, 'a, A: Axis, M: LineMap<A>> LeafTest for Following<'r, 'a, A, M> {
 /// Whether a formula has to be kept, told by its corners.
 #[tactic(auto, unfolding(crate::specs::MustKeep::must_keep))]
 pub(crate) fn must_keep_along<A: Axis, M: LineMap<A>>(route: &Route<'_, A, M>, tree: &Node) -> bool
-    ensures { result ≡ must_keep (way route.now) tree.now }
+    ensures { result ≡ must_keep (route_model route.now) tree.now }
 {
     has_leaf(tree, &Following { route })
 }
@@ -107,7 +107,7 @@ pub(crate) fn must_keep_tree<A: Axis, M: LineMap<A>>(
     edited: &str,
 ) -> bool
     requires { IsPlace place }
-    ensures { result ≡ must_keep_tree (way route.now) (tree_at node.now sheet.now place edited.now) }
+    ensures { result ≡ must_keep_tree (route_model route.now) (tree_at node.now sheet.now place edited.now) }
 {
     let route = route.of_names(sheet, edited);
     match route.goes(place) {
@@ -131,7 +131,7 @@ pub fn must_keep<A: Axis>(
     requires valid { IsValid A.along.last edit.now.kind }
     requires place { IsPlace place }
     requires corners { is_placed place node.now ≡ true }
-    requires survives { is_some (tree_goes (edit_way A.along edit.now.kind) (tree_at node.now sheet.now place edited.now)) ≡ true }
+    requires survives { is_some (tree_goes (edit_route A.along edit.now.kind) (tree_at node.now sheet.now place edited.now)) ≡ true }
     ensures value { result ≡ must_keep_at A.along edit.now.kind (tree_at node.now sheet.now place edited.now) }
     ensures exact { Decides (not result) ((there_and_back A.along edit.now.kind (tree_at node.now sheet.now place edited.now)).node ≡ node.now) }
 {

@@ -5,7 +5,7 @@ ghost use Rattle.std.specs.Bool.{Decides};
 ghost use Rattle.formula_tree.specs.Placed.{is_placed};
 ghost use Rattle.line_routes.specs.MustKeep.{must_keep, is_move, KeepsNoReference, KeepsRangesThatBecomeWhole};
 ghost use Rattle.line_routes.specs.Trees.{ComesBack, TreeLies, tree_carried, tree_part};
-ghost use Rattle.line_routes.specs.Way.{way};
+ghost use Rattle.line_routes.specs.RouteModel.{route_model};
 
 use crate::route::Route;
 use base_axis::Axis;
@@ -16,10 +16,10 @@ use line_edits::{LineEdit, LineMap};
 /// The corners of a tree that is carried along lie inside the sheet, and those of each range are
 /// in order.
 pub fn followed_is_placed<A: Axis, M: LineMap<A>>(route: &Route<'_, A, M>, tree: &Shared<Node>)
-    ensures { is_placed (way route.now).to (tree_carried (way route.now) tree.now) ≡ true }
+    ensures { is_placed (route_model route.now).to (tree_carried (route_model route.now) tree.now) ≡ true }
 {
-    // For the proof: the route is a way.
-    route.is_way();
+    // For the proof: the route goes one to one.
+    route.is_route();
     let _ = tree;
 }
 
@@ -29,12 +29,12 @@ pub fn followed_is_placed<A: Axis, M: LineMap<A>>(route: &Route<'_, A, M>, tree:
 /// one of its corners has no image or their images make it whole along the axis. What is kept then
 /// is the tree. This holds of every map on lines, so of insertions, deletions and moves.
 pub fn kept_by_corners<A: Axis, M: LineMap<A>>(route: &Route<'_, A, M>, tree: &Shared<Node>)
-    requires { TreeLies (way route.now) tree.now }
-    ensures exact { Decides (not (must_keep (way route.now) tree.now)) (ComesBack (way route.now) tree.now) }
-    ensures part { tree_part (way route.now) tree.now ≡ (if must_keep (way route.now) tree.now then Some tree.now else None) }
+    requires { TreeLies (route_model route.now) tree.now }
+    ensures exact { Decides (not (must_keep (route_model route.now) tree.now)) (ComesBack (route_model route.now) tree.now) }
+    ensures part { tree_part (route_model route.now) tree.now ≡ (if must_keep (route_model route.now) tree.now then Some tree.now else None) }
 {
-    // For the proof: the route is a way.
-    route.is_way();
+    // For the proof: the route goes one to one.
+    route.is_route();
     let _ = tree;
 }
 
@@ -42,9 +42,9 @@ pub fn kept_by_corners<A: Axis, M: LineMap<A>>(route: &Route<'_, A, M>, tree: &S
 /// to be has images of both corners, and the range between these is whole along the axis.
 pub fn moves_keep_whole_ranges<A: Axis>(route: &Route<'_, A, LineEdit<A>>)
     requires { is_move route.now.map.now.kind ≡ true }
-    ensures references { KeepsNoReference (way route.now) }
-    ensures ranges { KeepsRangesThatBecomeWhole (way route.now) }
+    ensures references { KeepsNoReference (route_model route.now) }
+    ensures ranges { KeepsRangesThatBecomeWhole (route_model route.now) }
 {
-    // For the proof: the route is a way.
-    route.is_way();
+    // For the proof: the route goes one to one.
+    route.is_route();
 }

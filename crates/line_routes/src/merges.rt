@@ -3,7 +3,7 @@ ghost use Rattle.std.specs.List.{filter_map};
 ghost use Rattle.base_axis.specs.Rectangles.{IsInside};
 ghost use Rattle.base_values.specs.declared.EditError.TheVariants.{NoMemory};
 ghost use Rattle.line_routes.specs.Merges.{merge_carried, merges_carried, merges_part, MergesLie};
-ghost use Rattle.line_routes.specs.Way.{way};
+ghost use Rattle.line_routes.specs.RouteModel.{route_model};
 
 use crate::list::put_last;
 use crate::route::Route;
@@ -18,7 +18,7 @@ fn carried_merge<A: Axis, M: LineMap<A>>(
     merge: MergedCell,
 ) -> Option<MergedCell>
     requires { IsInside merge }
-    ensures { result ≡ merge_carried (way route.now) merge }
+    ensures { result ≡ merge_carried (route_model route.now) merge }
 {
     let (first, last) = merge.lines::<A>();
     let (first, last) = route.map.merged(first, last, merge.across::<A>())?;
@@ -32,12 +32,12 @@ fn merges_left<A: Axis, M: LineMap<A>>(
     merges: &[MergedCell],
 ) -> Result<MergeList, EditError>
     requires { MergesLie merges.now }
-    ensures value { IfOk result (λ output. output ≡ filter_map (merge_carried (way route.now)) merges.now) }
+    ensures value { IfOk result (λ output. output ≡ filter_map (merge_carried (route_model route.now)) merges.now) }
     ensures inside { IfOk result MergesLie }
     ensures only { IsOkUnless result NoMemory }
 {
-    // For the proof: the route is a way.
-    route.is_way();
+    // For the proof: the route goes one to one.
+    route.is_route();
     let mut output = Items::empty(alloc);
     for merge in merges {
         put_last(carried_merge(route, *merge), &mut output)?;
@@ -55,7 +55,7 @@ pub fn carried_merges<A: Axis, M: LineMap<A>>(
     merges: &MergeList,
 ) -> Result<MergeList, EditError>
     requires { MergesLie merges.now }
-    ensures value { IfOk result (λ output. output ≡ merges_carried (way route.now) merges.now) }
+    ensures value { IfOk result (λ output. output ≡ merges_carried (route_model route.now) merges.now) }
     ensures inside { IfOk result MergesLie }
     ensures only { IsOkUnless result NoMemory }
 {
@@ -75,7 +75,7 @@ pub fn merges_part<A: Axis, M: LineMap<A>>(
     merges: &MergeList,
 ) -> Result<Option<MergeList>, EditError>
     requires { MergesLie merges.now }
-    ensures part { IfOk result (λ part. part ≡ merges_part (way route.now) merges.now) }
+    ensures part { IfOk result (λ part. part ≡ merges_part (route_model route.now) merges.now) }
     ensures only { IsOkUnless result NoMemory }
 {
     let there = carried_merges(alloc, route, merges)?;

@@ -2,7 +2,7 @@ ghost use Rattle.std.specs.Prelude.{◌≡◌, pos};
 ghost use Rattle.base_values.specs.Places.{IsLine, IsPlace};
 ghost use Rattle.base_axis.specs.Rectangles.{IsInside, last_place};
 ghost use Rattle.line_routes.specs.MergedCells.{lesser, span, between, merged_cell_carried, merged_cell_part};
-ghost use Rattle.line_routes.specs.Way.{way};
+ghost use Rattle.line_routes.specs.RouteModel.{route_model};
 
 use crate::route::Route;
 use base_axis::{Axis, ColumnAxis, MergedCell, RowAxis};
@@ -58,7 +58,7 @@ pub fn carried_rectangle<A: Axis, M: LineMap<A>>(
     cell: MergedCell,
 ) -> MergedCell
     requires { IsInside cell }
-    ensures value { result ≡ merged_cell_carried (way route.now) cell }
+    ensures value { result ≡ merged_cell_carried (route_model route.now) cell }
     ensures inside { IsInside result }
 {
     match (
@@ -78,7 +78,7 @@ pub fn rectangle_part<A: Axis, M: LineMap<A>>(
     cell: MergedCell,
 ) -> Option<MergedCell>
     requires { IsInside cell }
-    ensures part { result ≡ merged_cell_part (way route.now) cell }
+    ensures part { result ≡ merged_cell_part (route_model route.now) cell }
 {
     if carried_rectangle(&route.back(), carried_rectangle(route, cell)) == cell {
         return None;

@@ -4,7 +4,7 @@ ghost use Rattle.base_tables.specs.Folding.{same_folded};
 ghost use Rattle.base_values.specs.Places.{IsPlace};
 ghost use Rattle.base_values.specs.declared.EditError.TheVariants.{NoMemory};
 ghost use Rattle.line_routes.specs.Trees.{target, is_exposed, is_on_edited, is_whole, moved_corner, tree_carried, tree_part, TreeLies};
-ghost use Rattle.line_routes.specs.Way.{way};
+ghost use Rattle.line_routes.specs.RouteModel.{route_model};
 
 use crate::keeping::must_keep_along;
 use crate::route::Route;
@@ -33,7 +33,7 @@ fn target<A: Axis, M: LineMap<A>>(
     exposed: bool,
     corner: Corner,
 ) -> Option<Position>
-    ensures at { result ≡ target (way route.now) exposed corner }
+    ensures at { result ≡ target (route_model route.now) exposed corner }
     ensures inside { IfSome result IsPlace }
 {
     let place = corner_at(route.from, corner)?;
@@ -49,7 +49,7 @@ pub(crate) fn moved_corner<A: Axis, M: LineMap<A>>(
     exposed: bool,
     corner: Corner,
 ) -> Option<Corner>
-    ensures { result ≡ moved_corner (way route.now) exposed corner }
+    ensures { result ≡ moved_corner (route_model route.now) exposed corner }
 {
     let target = target(route, exposed, corner)?;
     Some(corner_to(
@@ -64,7 +64,7 @@ pub(crate) fn moved_corner<A: Axis, M: LineMap<A>>(
 /// sooner than by folding.
 #[tactic(auto, using(base_tables::specs::laws::Folding::same_folded_decides))]
 fn is_name_of_edited<A: Axis, M: LineMap<A>>(route: &Route<'_, A, M>, name: &str) -> bool
-    ensures { result ≡ same_folded name.now (way route.now).edited }
+    ensures { result ≡ same_folded name.now (route_model route.now).edited }
 {
     name == route.edited || same_by_folding(name, route.edited)
 }
@@ -76,7 +76,7 @@ pub(crate) fn is_on_edited<A: Axis, M: LineMap<A>>(
     route: &Route<'_, A, M>,
     sheet: &Option<Shared<Text>>,
 ) -> bool
-    ensures { result ≡ is_on_edited (way route.now).is_edited (way route.now).edited sheet.now }
+    ensures { result ≡ is_on_edited (route_model route.now).is_edited (route_model route.now).edited sheet.now }
 {
     match sheet {
         Some(name) => is_name_of_edited(route, name.get().as_str()),
@@ -104,16 +104,16 @@ pub(crate) fn is_exposed<A: Axis, M: LineMap<A>>(
     first: Corner,
     second: Corner,
 ) -> bool
-    ensures { result ≡ is_exposed (way route.now) sheet.now first second }
+    ensures { result ≡ is_exposed (route_model route.now) sheet.now first second }
 {
     is_on_edited(route, sheet) && !is_whole::<A>(first, second)
 }
 
 impl<'r, 'a, A: Axis, M: LineMap<A>> CornerMap for Following<'r, 'a, A, M> {
     ghost use Rattle.line_routes.specs.Trees.{following};
-    ghost use Rattle.line_routes.specs.Way.{way};
+    ghost use Rattle.line_routes.specs.RouteModel.{route_model};
 
-    ghost mapping = { λ self. following (way self.route.now) };
+    ghost mapping = { λ self. following (route_model self.route.now) };
 
     fn reference(&self, sheet: &Option<Shared<Text>>, corner: Corner) -> Option<Corner> {
         let exposed = is_on_edited(self.route, sheet);
@@ -142,7 +142,7 @@ pub fn carried_node<A: Axis, M: LineMap<A>>(
     route: &Route<'_, A, M>,
     node: &Node,
 ) -> Result<Node, EditError>
-    ensures node { IfOk result (λ carried. carried ≡ tree_carried (way route.now) node.now) }
+    ensures node { IfOk result (λ carried. carried ≡ tree_carried (route_model route.now) node.now) }
     ensures only { IsOkUnless result NoMemory }
 {
     Ok(move_node(alloc, node, route.to, &Following { route })?)
@@ -151,7 +151,7 @@ pub fn carried_node<A: Axis, M: LineMap<A>>(
 /// Whether the tree of a formula stays the same along a route, told without memory.
 #[tactic(auto, unfolding(crate::specs::Trees::tree_carried))]
 pub fn stays<A: Axis, M: LineMap<A>>(route: &Route<'_, A, M>, tree: &Node) -> bool
-    ensures { Decides result (tree_carried (way route.now) tree.now ≡ tree.now) }
+    ensures { Decides result (tree_carried (route_model route.now) tree.now ≡ tree.now) }
 {
     is_still(tree, route.to, &Following { route })
 }
@@ -163,7 +163,7 @@ pub fn carried_tree<A: Axis, M: LineMap<A>>(
     route: &Route<'_, A, M>,
     tree: &Shared<Node>,
 ) -> Result<Shared<Node>, EditError>
-    ensures value { IfOk result (λ carried. carried ≡ tree_carried (way route.now) tree.now) }
+    ensures value { IfOk result (λ carried. carried ≡ tree_carried (route_model route.now) tree.now) }
     ensures only { IsOkUnless result NoMemory }
 {
     if stays(route, tree.get()) {
@@ -191,11 +191,11 @@ pub fn tree_part<A: Axis, M: LineMap<A>>(
     route: &Route<'_, A, M>,
     tree: &Shared<Node>,
 ) -> Result<Option<Shared<Node>>, EditError>
-    requires { TreeLies (way route.now) tree.now }
-    ensures part { IfOk result (λ part. part ≡ tree_part (way route.now) tree.now) }
+    requires { TreeLies (route_model route.now) tree.now }
+    ensures part { IfOk result (λ part. part ≡ tree_part (route_model route.now) tree.now) }
     ensures only { IsOkUnless result NoMemory }
 {
-    // For the proof: the route is a way.
-    route.is_way();
+    // For the proof: the route goes one to one.
+    route.is_route();
     kept_where(must_keep_along(route, tree.get()), tree)
 }

@@ -1,7 +1,7 @@
 ghost use Rattle.std.specs.Prelude.{◌≡◌, IfOk, IsOkUnless};
 ghost use Rattle.base_values.specs.declared.EditError.TheVariants.{NoMemory};
 ghost use Rattle.line_routes.specs.TreeAt.{TreeAtLies, tree_at_carried, tree_at_part};
-ghost use Rattle.line_routes.specs.Way.{way};
+ghost use Rattle.line_routes.specs.RouteModel.{route_model};
 
 use crate::keeping::must_keep_tree;
 use crate::route::Route;
@@ -54,7 +54,7 @@ pub fn carried_tree_at<A: Axis, M: LineMap<A>>(
     tree: &TreeAt,
 ) -> Result<TreeAt, EditError>
     requires { TreeAtLies tree.now }
-    ensures value { IfOk result (λ value. value ≡ tree_at_carried (way route.now) tree.now) }
+    ensures value { IfOk result (λ value. value ≡ tree_at_carried (route_model route.now) tree.now) }
     ensures only { IsOkUnless result NoMemory }
 {
     let route = route.of_names(tree.sheet.as_str(), tree.edited.as_str());
@@ -75,11 +75,11 @@ pub fn tree_at_part<A: Axis, M: LineMap<A>>(
     tree: &TreeAt,
 ) -> Result<Option<TreeAt>, EditError>
     requires { TreeAtLies tree.now }
-    ensures part { IfOk result (λ part. part ≡ tree_at_part (way route.now) tree.now) }
+    ensures part { IfOk result (λ part. part ≡ tree_at_part (route_model route.now) tree.now) }
     ensures only { IsOkUnless result NoMemory }
 {
-    // For the proof: the route is a way.
-    route.is_way();
+    // For the proof: the route goes one to one.
+    route.is_route();
     let (own, edited) = (tree.sheet.as_str(), tree.edited.as_str());
     kept_where(
         must_keep_tree(route, &tree.node, own, tree.place, edited),

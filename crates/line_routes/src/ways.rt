@@ -2,7 +2,7 @@ ghost use Rattle.std.specs.Prelude.{◌≡◌, true, IfSome};
 ghost use Rattle.base_tables.specs.Folding.{same_folded};
 ghost use Rattle.base_values.specs.Places.{IsPlace};
 ghost use Rattle.line_edits.specs.Moves.{place_image};
-ghost use Rattle.line_routes.specs.Way.{IsWay, at, back, on, place_goes, way};
+ghost use Rattle.line_routes.specs.RouteModel.{IsRoute, at, back, on, place_goes, route_model};
 
 use crate::route::Route;
 use base_axis::Axis;
@@ -16,7 +16,7 @@ impl<'a, A: Axis, M: LineMap<A>> Route<'a, A, M> {
     pub fn at(&self, from: Position, to: Position) -> Route<'a, A, M>
         requires from { IsPlace from }
         requires to { IsPlace to }
-        ensures { way result ≡ at (way self.now) from to }
+        ensures { route_model result ≡ at (route_model self.now) from to }
     {
         Route {
             map: self.map,
@@ -35,7 +35,7 @@ impl<'a, A: Axis, M: LineMap<A>> Route<'a, A, M> {
     pub fn of_sheet<'t>(&self, sheet: u32, edited: &'t str) -> Route<'t, A, M>
     where
         'a: 't,
-        ensures { way result ≡ record (way self.now) { sheet = sheet; edited = edited.now; is_edited = true } }
+        ensures { route_model result ≡ record (route_model self.now) { sheet = sheet; edited = edited.now; is_edited = true } }
     {
         Route {
             map: self.map,
@@ -54,7 +54,7 @@ impl<'a, A: Axis, M: LineMap<A>> Route<'a, A, M> {
     pub fn on<'t>(&self, sheet: u32) -> Route<'t, A, M>
     where
         'a: 't,
-        ensures { way result ≡ on (way self.now) sheet }
+        ensures { route_model result ≡ on (route_model self.now) sheet }
     {
         Route {
             map: self.map,
@@ -74,7 +74,7 @@ impl<'a, A: Axis, M: LineMap<A>> Route<'a, A, M> {
     pub(crate) fn of_names<'t>(&self, own: &str, edited: &'t str) -> Route<'t, A, M>
     where
         'a: 't,
-        ensures { way result ≡ record (way self.now) { edited = edited.now; is_edited = same_folded own.now edited.now } }
+        ensures { route_model result ≡ record (route_model self.now) { edited = edited.now; is_edited = same_folded own.now edited.now } }
     {
         Route {
             map: self.map,
@@ -91,7 +91,7 @@ impl<'a, A: Axis, M: LineMap<A>> Route<'a, A, M> {
 
     /// The way back. It brings no lines in.
     pub fn back(&self) -> Route<'a, A, M>
-        ensures { way result ≡ back (way self.now) }
+        ensures { route_model result ≡ back (route_model self.now) }
     {
         Route {
             map: self.opposite,
@@ -106,9 +106,9 @@ impl<'a, A: Axis, M: LineMap<A>> Route<'a, A, M> {
         }
     }
 
-    /// It is a way.
-    pub fn is_way(&self)
-        ensures { IsWay (way self.now) }
+    /// It goes one to one along its axis.
+    pub fn is_route(&self)
+        ensures { IsRoute (route_model self.now) }
     {
         // The promise is one of the type.
         let _ = self.from;
@@ -124,10 +124,10 @@ impl<'a, A: Axis, M: LineMap<A>> Route<'a, A, M> {
     }
 
     /// Where a place of the sheet goes.
-    #[tactic(auto, unfolding(crate::specs::Way::place_goes))]
+    #[tactic(auto, unfolding(crate::specs::RouteModel::place_goes))]
     pub fn goes(&self, place: Position) -> Option<Position>
         requires { IsPlace place }
-        ensures value { result ≡ place_goes (way self.now) place }
+        ensures value { result ≡ place_goes (route_model self.now) place }
         ensures inside { IfSome result IsPlace }
     {
         if self.is_edited {
@@ -139,7 +139,7 @@ impl<'a, A: Axis, M: LineMap<A>> Route<'a, A, M> {
 
     /// The lines that are brought in.
     pub fn inserted(&self) -> Option<Block>
-        ensures { result ≡ (way self.now).moves.inserted }
+        ensures { result ≡ (route_model self.now).moves.inserted }
     {
         if self.brings {
             self.map.inserted()

@@ -6,25 +6,25 @@ use Rattle.base_values.specs.declared.Position.{Position}
 use Rattle.base_maps.specs.declared.SheetPlace.{SheetPlace}
 use Rattle.sheet_grid.specs.Lines.{is_plain}
 use Rattle.sheet_lines.specs.declared.KeptLines.{KeptLines}
-use Rattle.base_wire.specs.Spelling.{spell_signed, spell_option}
-use Rattle.formula_wire.specs.NodeBytes.{spell_node}
+use Rattle.base_wire.specs.Encoding.{encode_signed, encode_option}
+use Rattle.formula_wire.specs.NodeBytes.{encode_node}
 use Rattle.formula_wire.specs.Carried.{FitsNode, IsKnownNode}
-use Rattle.cell_wire.specs.CellBytes.{spell_position, FitsPosition, spell_cell, FitsCell, IsKnownCell}
-use Rattle.cell_wire.specs.LinkBytes.{spell_link, FitsLink}
-use Rattle.cell_wire.specs.MergeBytes.{spell_merges, FitsMerges}
-use Rattle.map_wire.specs.MapBytes.{spell_map, FitsMap}
-use Rattle.rule_wire.specs.FormattingBytes.{spell_formatting, FitsFormatting, IsKnownFormatting}
-use Rattle.grid_wire.specs.LineBytes.{spell_line, FitsLine}
-use Rattle.lines_wire.specs.PartBytes.{spell_sheet_place, FitsSheetPlace}
+use Rattle.cell_wire.specs.CellBytes.{encode_position, FitsPosition, encode_cell, FitsCell, IsKnownCell}
+use Rattle.cell_wire.specs.LinkBytes.{encode_link, FitsLink}
+use Rattle.cell_wire.specs.MergeBytes.{encode_merges, FitsMerges}
+use Rattle.map_wire.specs.MapBytes.{encode_map, FitsMap}
+use Rattle.rule_wire.specs.FormattingBytes.{encode_formatting, FitsFormatting, IsKnownFormatting}
+use Rattle.grid_wire.specs.LineBytes.{encode_line, FitsLine}
+use Rattle.lines_wire.specs.PartBytes.{encode_sheet_place, FitsSheetPlace}
 
 -- ---- what line edits keep
 
 -- cells, links, lines, the trees of formulas, merges and conditional rules
-unfoldable pub spell_kept : KeptLines → List ℕ
-spell_kept kept =
-    spell_map spell_position spell_cell kept.cells ++ (spell_map spell_position spell_link kept.links
-    ++ (spell_map (spell_signed w32) spell_line kept.lines ++ (spell_map spell_sheet_place spell_node kept.formulas
-    ++ (spell_option spell_merges kept.merges ++ spell_map (to_be_bytes w64) spell_formatting kept.formattings))))
+unfoldable pub encode_kept : KeptLines → List ℕ
+encode_kept kept =
+    encode_map encode_position encode_cell kept.cells ++ (encode_map encode_position encode_link kept.links
+    ++ (encode_map (encode_signed w32) encode_line kept.lines ++ (encode_map encode_sheet_place encode_node kept.formulas
+    ++ (encode_option encode_merges kept.merges ++ encode_map (to_be_bytes w64) encode_formatting kept.formattings))))
 
 -- what line edits keep, as bytes can carry it
 pub record FitsKept (kept : KeptLines) : Type 0 where

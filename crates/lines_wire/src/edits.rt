@@ -3,7 +3,7 @@
 ghost use Rattle.std.specs.Prelude.{◌≡◌, ◌++◌, OnOk, FitsSigned};
 ghost use Rattle.std.specs.Int.{w32};
 ghost use Rattle.base_values.specs.Answers.{Answers, map_ok};
-ghost use Rattle.lines_wire.specs.EditBytes.{spell_block, spell_edit, spell_number, FitsBlock, FitsEdit};
+ghost use Rattle.lines_wire.specs.EditBytes.{encode_block, encode_edit, encode_number, FitsBlock, FitsEdit};
 ghost use Rattle.lines_wire.specs.laws.Reading.{block_at, edit_at};
 
 use crate::steps::read;
@@ -12,9 +12,9 @@ use base_wire::Part;
 use line_map::EditKind;
 use std::alloc::{AllocError, Global};
 
-#[tactic(auto, unfolding(crate::specs::EditBytes::spell_number))]
+#[tactic(auto, unfolding(crate::specs::EditBytes::encode_number))]
 fn put_number(out: &mut Vec<u8>, number: i32) -> Result<(), AllocError>
-    ensures spelled { OnOk result (out.new.items ≡ out.old.items ++ spell_number number) }
+    ensures encoded { OnOk result (out.new.items ≡ out.old.items ++ encode_number number) }
     ensures fits { OnOk result (FitsSigned w32 number) }
 {
     out.extend_from_slice(&number.to_be_bytes())?;
@@ -23,7 +23,7 @@ fn put_number(out: &mut Vec<u8>, number: i32) -> Result<(), AllocError>
 
 /// Adds a first line, and how many.
 fn put_block(out: &mut Vec<u8>, first: i32, count: i32) -> Result<(), AllocError>
-    ensures spelled { OnOk result (out.new.items ≡ out.old.items ++ spell_block (first, count)) }
+    ensures encoded { OnOk result (out.new.items ≡ out.old.items ++ encode_block (first, count)) }
     ensures fits { OnOk result (FitsBlock first count) }
 {
     put_number(out, first)?;
@@ -31,7 +31,7 @@ fn put_block(out: &mut Vec<u8>, first: i32, count: i32) -> Result<(), AllocError
 }
 
 fn put_edit(out: &mut Vec<u8>, edit: EditKind) -> Result<(), AllocError>
-    ensures spelled { OnOk result (out.new.items ≡ out.old.items ++ spell_edit edit) }
+    ensures encoded { OnOk result (out.new.items ≡ out.old.items ++ encode_edit edit) }
     ensures fits { OnOk result (FitsEdit edit) }
 {
     match edit {
@@ -97,8 +97,8 @@ fn edit_at(alloc: Global, bytes: &[u8]) -> Result<(EditKind, &[u8]), EditError>
 pub struct EditPart;
 
 impl Part for EditPart {
-    ghost use Rattle.base_wire.specs.Spelling.{Any};
-    ghost use Rattle.lines_wire.specs.EditBytes.{spell_edit, FitsEdit};
+    ghost use Rattle.base_wire.specs.Encoding.{Any};
+    ghost use Rattle.lines_wire.specs.EditBytes.{encode_edit, FitsEdit};
     ghost use Rattle.lines_wire.specs.laws.Reading.{edit_at};
     ghost use Rattle.lines_wire.specs.laws.EditLaws.{edit_format, edit_some};
 
@@ -110,7 +110,7 @@ impl Part for EditPart {
 
     ghost Fits = { FitsEdit };
 
-    ghost spelling = { spell_edit };
+    ghost encoding = { encode_edit };
 
     ghost reading = { edit_at };
 

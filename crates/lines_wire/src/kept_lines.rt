@@ -2,9 +2,9 @@
 
 ghost use Rattle.std.specs.Prelude.{◌≡◌, ◌++◌, IfSome, OnOk};
 ghost use Rattle.base_values.specs.Answers.{Answers, map_ok};
-ghost use Rattle.base_wire.specs.Spelling.{spell_option};
-ghost use Rattle.cell_wire.specs.MergeBytes.{spell_merges, FitsMerges};
-ghost use Rattle.lines_wire.specs.KeptBytes.{spell_kept, FitsKept, IsKnownKept};
+ghost use Rattle.base_wire.specs.Encoding.{encode_option};
+ghost use Rattle.cell_wire.specs.MergeBytes.{encode_merges, FitsMerges};
+ghost use Rattle.lines_wire.specs.KeptBytes.{encode_kept, FitsKept, IsKnownKept};
 ghost use Rattle.lines_wire.specs.laws.Reading.{kept_at};
 
 use crate::steps::read;
@@ -39,15 +39,15 @@ pub type FormulasPart = MapPart<SheetPlaceKeys<Shared<Node>>, SheetPlacePart, Sh
 
 #[tactic(auto, using(map_wire::specs::laws::MapFits::any_option))]
 fn put_kept_merges(out: &mut Vec<u8>, merges: &Option<MergeList>) -> Result<(), AllocError>
-    ensures spelled { OnOk result (out.new.items ≡ out.old.items ++ spell_option spell_merges merges.now) }
+    ensures encoded { OnOk result (out.new.items ≡ out.old.items ++ encode_option encode_merges merges.now) }
     ensures fits { OnOk result (IfSome merges.now FitsMerges) }
 {
     Option::<MergeListPart>::put(out, merges)
 }
 
-#[tactic(auto, unfolding(crate::specs::KeptBytes::spell_kept))]
+#[tactic(auto, unfolding(crate::specs::KeptBytes::encode_kept))]
 fn put_kept(out: &mut Vec<u8>, kept: &KeptLines) -> Result<(), AllocError>
-    ensures spelled { OnOk result (out.new.items ≡ out.old.items ++ spell_kept kept.now) }
+    ensures encoded { OnOk result (out.new.items ≡ out.old.items ++ encode_kept kept.now) }
     ensures fits { OnOk result (IsKnownKept kept.now → FitsKept kept.now) }
 {
     CellsPart::put(out, &kept.cells)?;
@@ -87,12 +87,12 @@ fn kept_at<'a>(
 /// What a line edit keeps: its cells, links, lines, trees, merges and conditional rules (docs/FORMATS.md,
 /// "What line edits keep").
 ///
-/// Bytes spell none where a map's keys don't rise strictly, where a line has nothing of its own, or
+/// Bytes encode none where a map's keys don't rise strictly, where a line has nothing of its own, or
 /// where a part is none. Each style that is read and equal to that of the context shares it.
 pub struct KeptLinesPart;
 
 impl Part for KeptLinesPart {
-    ghost use Rattle.lines_wire.specs.KeptBytes.{spell_kept, FitsKept, IsKnownKept};
+    ghost use Rattle.lines_wire.specs.KeptBytes.{encode_kept, FitsKept, IsKnownKept};
     ghost use Rattle.lines_wire.specs.laws.Reading.{kept_at};
     ghost use Rattle.lines_wire.specs.laws.KeptLaws.{kept_format, kept_some};
 
@@ -104,7 +104,7 @@ impl Part for KeptLinesPart {
 
     ghost Fits = { FitsKept };
 
-    ghost spelling = { spell_kept };
+    ghost encoding = { encode_kept };
 
     ghost reading = { kept_at };
 

@@ -23,8 +23,8 @@ fn sheet_place_at(alloc: Global, bytes: &[u8]) -> Result<(SheetPlace, &[u8]), Ed
 pub struct SheetPlacePart;
 
 impl Part for SheetPlacePart {
-    ghost use Rattle.base_wire.specs.Spelling.{Any};
-    ghost use Rattle.lines_wire.specs.PartBytes.{spell_sheet_place, FitsSheetPlace};
+    ghost use Rattle.base_wire.specs.Encoding.{Any};
+    ghost use Rattle.lines_wire.specs.PartBytes.{encode_sheet_place, FitsSheetPlace};
     ghost use Rattle.lines_wire.specs.laws.Reading.{sheet_place_at};
     ghost use Rattle.lines_wire.specs.laws.PartLaws.{sheet_place_format, sheet_place_some};
 
@@ -36,7 +36,7 @@ impl Part for SheetPlacePart {
 
     ghost Fits = { FitsSheetPlace };
 
-    ghost spelling = { spell_sheet_place };
+    ghost encoding = { encode_sheet_place };
 
     ghost reading = { sheet_place_at };
 
@@ -72,8 +72,8 @@ fn sheet_index_at(alloc: Global, bytes: &[u8]) -> Result<(SheetIndex, &[u8]), Ed
 pub struct SheetIndexPart;
 
 impl Part for SheetIndexPart {
-    ghost use Rattle.base_wire.specs.Spelling.{Any};
-    ghost use Rattle.lines_wire.specs.PartBytes.{spell_sheet_index, FitsSheetIndex};
+    ghost use Rattle.base_wire.specs.Encoding.{Any};
+    ghost use Rattle.lines_wire.specs.PartBytes.{encode_sheet_index, FitsSheetIndex};
     ghost use Rattle.lines_wire.specs.laws.Reading.{sheet_index_at};
     ghost use Rattle.lines_wire.specs.laws.PartLaws.{sheet_index_format, sheet_index_some};
 
@@ -85,7 +85,7 @@ impl Part for SheetIndexPart {
 
     ghost Fits = { FitsSheetIndex };
 
-    ghost spelling = { spell_sheet_index };
+    ghost encoding = { encode_sheet_index };
 
     ghost reading = { sheet_index_at };
 

@@ -29,7 +29,7 @@ pub(crate) struct EntryPart<K: Part<Context = ()>, P: Part> {
 
 impl<K: Part<Context = ()>, P: Part> Part for EntryPart<K, P> {
     ghost use Rattle.base_wire.specs.laws.Reading.{◌⊗◌};
-    ghost use Rattle.base_wire.specs.Spelling.{Both, spell_both};
+    ghost use Rattle.base_wire.specs.Encoding.{Both, encode_both};
     ghost use Rattle.base_wire.specs.laws.Formats.{both_format};
     ghost use Rattle.map_wire.specs.laws.MapLaws.{entry_some};
 
@@ -41,7 +41,7 @@ impl<K: Part<Context = ()>, P: Part> Part for EntryPart<K, P> {
 
     ghost Fits = { Both K.Fits P.Fits };
 
-    ghost spelling = { spell_both K.spelling P.spelling };
+    ghost encoding = { encode_both K.encoding P.encoding };
 
     ghost reading = { K.reading ⊗ P.reading };
 
@@ -60,5 +60,5 @@ impl<K: Part<Context = ()>, P: Part> Part for EntryPart<K, P> {
 
     ghost format = { both_format K.format P.format };
 
-    ghost some = { entry_some K.spelling K.some P.spelling };
+    ghost some = { entry_some K.encoding K.some P.encoding };
 }

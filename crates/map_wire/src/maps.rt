@@ -9,7 +9,7 @@ use std::alloc::{AllocError, Global};
 use std::marker::PhantomData;
 
 /// A map, whose keys and values are parts: how many entries it has, and its entries in the order of
-/// their keys (docs/FORMATS.md, "Bytes"). Bytes whose keys don't rise strictly spell none.
+/// their keys (docs/FORMATS.md, "Bytes"). Bytes whose keys don't rise strictly encode none.
 pub struct MapPart<X: PlainKey<P::Value>, K: Part<Value = X::Key, Context = ()>, P: Part> {
     map: PhantomData<X>,
     key: PhantomData<K>,
@@ -19,7 +19,7 @@ pub struct MapPart<X: PlainKey<P::Value>, K: Part<Value = X::Key, Context = ()>,
 impl<X: PlainKey<P::Value>, K: Part<Value = X::Key, Context = ()>, P: Part> Part
     for MapPart<X, K, P> {
     ghost use Rattle.std.proofs.Common.{arith};
-    ghost use Rattle.map_wire.specs.MapBytes.{spell_map, FitsMap, IsKnownMap};
+    ghost use Rattle.map_wire.specs.MapBytes.{encode_map, FitsMap, IsKnownMap};
     ghost use Rattle.map_wire.specs.laws.Reading.{map_of_at};
     ghost use Rattle.map_wire.specs.laws.KeyOrder.{order_total, order_exact};
     ghost use Rattle.map_wire.specs.laws.MapLaws.{map_format};
@@ -32,7 +32,7 @@ impl<X: PlainKey<P::Value>, K: Part<Value = X::Key, Context = ()>, P: Part> Part
 
     ghost Fits = { λ map. FitsMap K.Fits P.Fits (X.seen map) };
 
-    ghost spelling = { λ map. spell_map K.spelling P.spelling (X.seen map) };
+    ghost encoding = { λ map. encode_map K.encoding P.encoding (X.seen map) };
 
     ghost reading = { map_of_at X.order X.model K.reading P.reading };
 

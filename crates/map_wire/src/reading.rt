@@ -1,13 +1,13 @@
 //! Maps from the front of bytes. Each reader answers the value and the bytes after it. It refuses with
-//! `ParseDiffs` bytes that are cut short or spell no such value, and with `NoMemory`.
+//! `ParseDiffs` bytes that are cut short or encode no such value, and with `NoMemory`.
 
 ghost use Rattle.std.specs.Prelude.{◌≡◌, IfOk, IsTrue};
 ghost use Rattle.std.specs.FinMap.{is_sorted};
 ghost use Rattle.std.specs.List.{AllByRecursion};
 ghost use Rattle.base_values.specs.Answers.{Answers, map_ok};
 ghost use Rattle.base_wire.specs.Reads.{Reads};
-ghost use Rattle.base_wire.specs.Spelling.{Both};
-ghost use Rattle.map_wire.specs.MapBytes.{FitsMap, Within, spell_map};
+ghost use Rattle.base_wire.specs.Encoding.{Both};
+ghost use Rattle.map_wire.specs.MapBytes.{FitsMap, Within, encode_map};
 ghost use Rattle.map_wire.specs.laws.Reading.{entries_at, map_of_at};
 
 use crate::entries::EntryPart;
@@ -83,7 +83,7 @@ fn map_by_steps<'a, X: MapKey<P::Value>, K: Part<Value = X::Key, Context = ()>, 
 
 /// The map at the front of bytes, and the bytes after it. The map takes each key that bytes can carry.
 ///
-/// Refuses with `ParseDiffs` bytes that begin with the spelling of no map, such as those whose keys don't
+/// Refuses with `ParseDiffs` bytes that begin with the encoding of no map, such as those whose keys don't
 /// rise strictly, and with `NoMemory`.
 pub fn map_at<'a, X: MapKey<P::Value>, K: Part<Value = X::Key, Context = ()>, P: Part>(
     alloc: Global,
@@ -91,7 +91,7 @@ pub fn map_at<'a, X: MapKey<P::Value>, K: Part<Value = X::Key, Context = ()>, P:
     bytes: &'a [u8],
 ) -> Result<(KeyMap<X, P::Value>, &'a [u8]), EditError>
     requires inside { Within K.Fits X.fits }
-    ensures { Reads (λ map. FitsMap K.Fits P.Fits (X.seen map)) (λ map. spell_map K.spelling P.spelling (X.seen map)) bytes.now (map_ok (λ x. (x.0, x.1.now)) result) }
+    ensures { Reads (λ map. FitsMap K.Fits P.Fits (X.seen map)) (λ map. encode_map K.encoding P.encoding (X.seen map)) bytes.now (map_ok (λ x. (x.0, x.1.now)) result) }
 {
     map_by_steps::<X, K, P>(alloc, context, bytes)
 }

@@ -2,8 +2,8 @@
 
 ghost use Rattle.std.specs.Prelude.{◌≡◌, ◌++◌, ◌<◌, ◌^◌, OnOk, length};
 ghost use Rattle.std.specs.List.{AllByRecursion};
-ghost use Rattle.base_wire.specs.Spelling.{spell_both};
-ghost use Rattle.map_wire.specs.MapBytes.{spell_entries, spell_map, FitsMap, HasValues, Within};
+ghost use Rattle.base_wire.specs.Encoding.{encode_both};
+ghost use Rattle.map_wire.specs.MapBytes.{encode_entries, encode_map, FitsMap, HasValues, Within};
 ghost use Rattle.map_wire.specs.laws.MapFits.{Carried};
 
 use base_values::{KeyMap, MapKey};
@@ -16,7 +16,7 @@ fn put_entry<K: Part, P: Part>(
     key: &K::Value,
     value: &P::Value,
 ) -> Result<(), AllocError>
-    ensures spelled { OnOk result (out.new.items ≡ out.old.items ++ spell_both K.spelling P.spelling (key.now, value.now)) }
+    ensures encoded { OnOk result (out.new.items ≡ out.old.items ++ encode_both K.encoding P.encoding (key.now, value.now)) }
     ensures fits { OnOk result (Carried K.Known P.Known K.Fits P.Fits (key.now, value.now)) }
 {
     K::put(out, key)?;
@@ -28,7 +28,7 @@ fn put_entries<K: Part, P: Part>(
     out: &mut Vec<u8>,
     entries: Iter<'_, K::Value, P::Value>,
 ) -> Result<(), AllocError>
-    ensures spelled { OnOk result (out.new.items ≡ out.old.items ++ spell_entries K.spelling P.spelling entries.entry) }
+    ensures encoded { OnOk result (out.new.items ≡ out.old.items ++ encode_entries K.encoding P.encoding entries.entry) }
     ensures short { OnOk result (length entries.entry < 2 ^ 64) }
     ensures each { OnOk result (AllByRecursion (Carried K.Known P.Known K.Fits P.Fits) entries.entry) }
 {
@@ -45,7 +45,7 @@ pub fn put_map<X: MapKey<P::Value>, K: Part<Value = X::Key, Context = ()>, P: Pa
     out: &mut Vec<u8>,
     map: &KeyMap<X, P::Value>,
 ) -> Result<(), AllocError>
-    ensures spelled { OnOk result (out.new.items ≡ out.old.items ++ spell_map K.spelling P.spelling (X.seen map.now)) }
+    ensures encoded { OnOk result (out.new.items ≡ out.old.items ++ encode_map K.encoding P.encoding (X.seen map.now)) }
     ensures fits { OnOk result (Within X.fits K.Known → HasValues P.Known (X.seen map.now) → FitsMap K.Fits P.Fits (X.seen map.now)) }
 {
     put_entries::<K, P>(out, map.iter())?;

@@ -17,9 +17,9 @@ use Rattle.edit_plans.specs.ViewSteps.{selected_by, view_asked}
 use Rattle.open_book.specs.BothWays.{GoesBothWays}
 use Rattle.open_book.specs.Document.{Document}
 use Rattle.open_book.specs.Sound.{IsExact, IsSoundStep}
-use Rattle.open_book.specs.Spellable.{AreSpellable}
+use Rattle.open_book.specs.Encodable.{AreEncodable}
 use Rattle.open_book.specs.Stands.{IsSeenPlan, IsStepBy}
-use Rattle.open_book.proofs.Spelled.{record_spellable}
+use Rattle.open_book.proofs.Encoded.{record_encodable}
 
 -- an edit whose record has the entries that differ
 pub record IsOfEntries (edit : Edit) : Type 0 where
@@ -73,7 +73,7 @@ module _ (edit : Edit) (it : IsOfEntries edit) where
       forth = entries_both.forth;
       back = entries_both.back;
       exact = entries_both.exact;
-      spellable = subst AreSpellable record_is (record_spellable earlier later list before after exact kept);
+      encodable = subst AreEncodable record_is (record_encodable earlier later list before after exact kept);
     }
 
 -- ---- the plan of an edit by entries

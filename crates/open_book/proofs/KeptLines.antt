@@ -18,7 +18,7 @@ use Rattle.sheet_grid.specs.Sheet.{Sheet}
 use Rattle.sheet_grid.specs.Book.{Book}
 use Rattle.sheet_rules.specs.laws.EntryLaws.{both}
 use Rattle.sheet_rules.specs.WellFormed.{has_font, have_attributes, is_row, is_column, is_size, is_width, is_row_style, is_column_style, IsWellFormed}
-use Rattle.sheet_lines.specs.Followed.{book_way}
+use Rattle.sheet_lines.specs.Followed.{book_route}
 use Rattle.sheet_lines.specs.Kept.{lines_of, edited_kept, kept_lines}
 use Rattle.sheet_ids.specs.Ids.{sheet_of}
 use Rattle.sheet_history.specs.laws.Entries.{entry_holds}
@@ -69,7 +69,7 @@ some_or_none : (b : Bool) (o : Option LineAttr) → IfSome o IsOwn → IfSome (c
 some_or_none true o own = own
 some_or_none false o own = tt
 
-lost_own : (a : Along) (e : EditKind) (id : ℕ) (book : Book) (o : Option Sheet) → ((sheet : Sheet) → o ≡ Some sheet → have_attributes sheet ≡ true) → (line : ℤ) → IfSome (get (edited_kept (book_way a e id book) o).lines line) IsOwn
+lost_own : (a : Along) (e : EditKind) (id : ℕ) (book : Book) (o : Option Sheet) → ((sheet : Sheet) → o ≡ Some sheet → have_attributes sheet ≡ true) → (line : ℤ) → IfSome (get (edited_kept (book_route a e id book) o).lines line) IsOwn
 lost_own a e id book None all line = subst (λ (o : Option LineAttr). IfSome o IsOwn) (sym (get-empty int_cmp line)) tt
 lost_own a e id book (Some sheet) all line =
     subst (λ (o : Option LineAttr). IfSome o IsOwn) (sym (get-lost_map int_cmp int_cmp_total exact_signed (image_at a.last e) (lines_of a sheet) line))

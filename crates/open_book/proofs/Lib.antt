@@ -10,7 +10,7 @@ pub mod Planned
 pub mod Recording
 pub mod Received
 pub mod SheetSteps
-pub mod SheetsSpelled
+pub mod SheetsEncoded
 pub mod Sounds
-pub mod Spelled
+pub mod Encoded
 pub mod Tested

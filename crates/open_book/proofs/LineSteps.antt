@@ -23,7 +23,7 @@ use Rattle.sheet_history.specs.laws.LineRecords.{along_lawful, record_made, reco
 use Rattle.edit_plans.specs.Edits.{Edit, changed, lines_record, record_of}
 use Rattle.edit_plans.specs.Edits.Edit.{Lines}
 use Rattle.open_book.specs.Document.{Document, document_edit, edited_to, recorded, lines_recorded}
-use Rattle.open_book.specs.Spellable.{AreSpellable}
+use Rattle.open_book.specs.Encodable.{AreEncodable}
 use Rattle.open_book.specs.Sound.{IsSoundChange}
 use Rattle.open_book.specs.BothWays.{GoesBothWays}
 use Rattle.open_book.proofs.LinePlans.{IsPlanned, lines_plan}
@@ -91,11 +91,11 @@ module _ (index : ℕ) (axis : LineAxis) (kind : EditKind) (plan : ℕ × EditKi
     pub plan_edit : IsLineEdit axis plan.1 plan.0 w
     plan_edit = subst (λ (p : ℕ × EditKind). IsLineEdit axis p.1 p.0 w) it.plan_is it.edit
 
-    -- and a sound step, if the record of the plan can be spelled
-    pub plan_sound : AreSpellable (line_record axis plan.1 plan.0 w) → IsSoundChange (Lines index axis kind) w
-    plan_sound spellable loud later how =
+    -- and a sound step, if the record of the plan can be encoded
+    pub plan_sound : AreEncodable (line_record axis plan.1 plan.0 w) → IsSoundChange (Lines index axis kind) w
+    plan_sound encodable loud later how =
         let both = lines_go_both_ways index axis kind w later rules how in
-        record { before = rules; after = both.rules; forth = both.forth; back = both.back; exact = both.exact; spellable = subst AreSpellable (sym (plan_record later)) spellable }
+        record { before = rules; after = both.rules; forth = both.forth; back = both.back; exact = both.exact; encodable = subst AreEncodable (sym (plan_record later)) encodable }
 
   -- to make a planned edit and to record it is the edit
   pub planned_document : (doc : Document) → IsWellFormed doc.book → lines_planned (along_of axis) kind index doc.book ≡ Ok plan

@@ -26,7 +26,7 @@ use Rattle.open_book.specs.BothWays.{GoesBothWays}
 use Rattle.open_book.specs.Document.{Document, document_edit, edited_to, recorded}
 use Rattle.open_book.specs.Far.{is_far}
 use Rattle.open_book.specs.Sound.{IsLinesRecord, IsSoundChange}
-use Rattle.open_book.specs.Spellable.{AreSpellable}
+use Rattle.open_book.specs.Encodable.{AreEncodable}
 use Rattle.open_book.proofs.LineSteps.{lines_go_both_ways, refused_document}
 
 -- ---- a distance that no number of the code has
@@ -93,7 +93,7 @@ module _ (index : ℕ) (axis : LineAxis) (first count delta : ℤ) where
     move_sound change loud later how =
         let step = change refl later (changes ∙ how) in
         let it = both_ways later (record { rules = step.after; forth = step.forth; back = step.back; exact = step.exact }) in
-        record { before = step.before; after = it.rules; forth = it.forth; back = it.back; exact = it.exact; spellable = subst AreSpellable (records later) step.spellable }
+        record { before = step.before; after = it.rules; forth = it.forth; back = it.back; exact = it.exact; encodable = subst AreEncodable (records later) step.encodable }
 
   -- an accepted move in a well-formed workbook goes both ways
   pub moves_go_both_ways : (earlier later : Book) → IsWellFormed earlier → changed move earlier ≡ Ok later → GoesBothWays move earlier later

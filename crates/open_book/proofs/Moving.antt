@@ -12,7 +12,7 @@ use Rattle.sheet_grid.specs.Book.{Book, sheet_at}
 use Rattle.sheet_rules.specs.WellFormed.{IsWellFormed}
 use Rattle.sheet_history.specs.declared.QueueDiffs.{QueueDiffs}
 use Rattle.sheet_history.specs.Diffs.{replayed}
-use Rattle.sheet_wire.specs.QueueBytes.{IsKnownQueue, FitsQueue, spell_queue}
+use Rattle.sheet_wire.specs.QueueBytes.{IsKnownQueue, FitsQueue, encode_queue}
 use Rattle.sheet_views.specs.declared.View.{View}
 use Rattle.sheet_views.specs.Chosen.{id_at}
 use Rattle.sheet_views.specs.Views.{IsViewOf, is_range, range_chosen, range_from}
@@ -34,7 +34,7 @@ use Rattle.open_book.specs.Document.{Document, document, document_edit, document
 use Rattle.open_book.specs.Machine.{State, edit_of, edited, looking, undo_of, redo_of, synced_of, received}
 use Rattle.open_book.specs.Opened.{document_in, session_of}
 use Rattle.open_book.specs.Sound.{Carries, IsSound, IsSoundChange}
-use Rattle.open_book.specs.Stands.{StandsFor, IsReached, IsPlanOf, IsSeenPlan, Moves, Turns}
+use Rattle.open_book.specs.Stands.{StandsFor, IsReached, IsPlanOf, IsSeenPlan, Moves, MovesOrNoMemory}
 use Rattle.open_book.specs.Values.{Session, seeing}
 use Rattle.open_book.specs.Views.{sheet_chosen, view_at}
 use Rattle.open_book.proofs.Documents.{document_edited, document_undone, document_redone, document_taken}
@@ -80,13 +80,13 @@ mapped_ok f (Err error) h = h
 -- a call that edits the document as the machine's step does takes the model to what stands for the next state
 turns : (old new : Document) (s : State) (result : Result (Unit {0}) EditError) (f : Document → Result Document EditError) (expected : Result State EditError)
     → StandsFor old s → Edits result old new (f old) → f (document s) ≡ map_ok document expected
-    → OnOk result ((next : State) → expected ≡ Ok next → IsSound next) → Turns result new expected
+    → OnOk result ((next : State) → expected ≡ Ok next → IsSound next) → MovesOrNoMemory result new expected
 turns old new s (Ok u) f expected stands edits along sound = go expected along sound
   where
     led : f (document s) ≡ Ok new
     led = ap f (sym stands.document) ∙ edits.done
 
-    go : (e : Result State EditError) → f (document s) ≡ map_ok document e → ((next : State) → e ≡ Ok next → IsSound next) → Turns (Ok u) new e
+    go : (e : Result State EditError) → f (document s) ≡ map_ok document e → ((next : State) → e ≡ Ok next → IsSound next) → MovesOrNoMemory (Ok u) new e
     go (Ok next) is keeps =
         let same : ◌≡◌ {A = Result Document EditError} (Ok new) (Ok (document next)) = sym led ∙ is in
         let documents : new ≡ document next = cc in
@@ -112,18 +112,18 @@ edit_moves edit old new result changes sound s stands =
     memory (Err error) h = λ short. mapped_ok document (edit_of edit s) (subst IsOk (ap (document_edit edit) stands.document ∙ document_edited edit s) (h short))
 
 -- a call that takes the newest list back in the document turns as the machine does
-pub undo_turns : (old new : Document) (result : Result (Unit {0}) EditError) → Edits result old new (document_undo old) → (s : State) → StandsFor old s → Turns result new (undo_of s)
+pub undo_turns : (old new : Document) (result : Result (Unit {0}) EditError) → Edits result old new (document_undo old) → (s : State) → StandsFor old s → MovesOrNoMemory result new (undo_of s)
 undo_turns old new result edits s stands =
     turns old new s result document_undo (undo_of s) stands edits (document_undone s stands.sound) (on_ok result (sound_undo s stands.sound))
 
 -- and so does one that makes it again
-pub redo_turns : (old new : Document) (result : Result (Unit {0}) EditError) → Edits result old new (document_redo old) → (s : State) → StandsFor old s → Turns result new (redo_of s)
+pub redo_turns : (old new : Document) (result : Result (Unit {0}) EditError) → Edits result old new (document_redo old) → (s : State) → StandsFor old s → MovesOrNoMemory result new (redo_of s)
 redo_turns old new result edits s stands =
     turns old new s result document_redo (redo_of s) stands edits (document_redone s stands.sound) (on_ok result (sound_redo s stands.sound))
 
 -- and one that follows an entry of another copy
 pub received_turns : (at : ℕ) (one : QueueDiffs) (old new : Document) (result : Result (Unit {0}) EditError) → Edits result old new (document_received at one old) → (s : State) → StandsFor old s
-    → Turns result new (received at one s)
+    → MovesOrNoMemory result new (received at one s)
 received_turns at one old new result edits s stands =
     turns old new s result (document_received at one) (received at one s) stands edits (document_taken at one s) (on_ok result (sound_received s stands.sound at one))
 
@@ -131,10 +131,10 @@ received_turns at one old new result edits s stands =
 
 -- where it turns from each state that it stood for, it stands for some state again
 pub reached_on : (result : Result (Unit {0}) EditError) (old new : Document) (step : State → Result State EditError)
-    → OnErr result (new ≡ old) → ((s : State) → StandsFor old s → Turns result new (step s)) → IsReached old → IsReached new
+    → OnErr result (new ≡ old) → ((s : State) → StandsFor old s → MovesOrNoMemory result new (step s)) → IsReached old → IsReached new
 reached_on (Ok u) old new step same goes is = go (step is.0) (goes is.0 is.1)
   where
-    go : (e : Result State EditError) → Turns (Ok u) new e → IsReached new
+    go : (e : Result State EditError) → MovesOrNoMemory (Ok u) new e → IsReached new
     go (Ok next) to = (next, to.done)
     go (Err error) to = absurd to.done
 reached_on (Err error) old new step same goes is = subst IsReached (sym same) is
@@ -148,9 +148,9 @@ reached_by result old new step same goes is = reached_on result old new step sam
 pub reached_rules : (doc : Document) → IsReached doc → IsWellFormed doc.book
 reached_rules doc is = subst IsWellFormed (sym (ap (λ (d : Document). d.book) is.1.document)) is.1.sound.present
 
--- what is queued can be spelled
+-- what is queued can be encoded
 pub queued_known : (doc : Document) → IsReached doc → IsKnownQueue doc.queue
-queued_known doc is = subst IsKnownQueue (sym (ap (λ (d : Document). d.queue) is.1.document)) is.1.sound.spellable
+queued_known doc is = subst IsKnownQueue (sym (ap (λ (d : Document). d.queue) is.1.document)) is.1.sound.encodable
 
 -- ---- what callers see
 
@@ -178,15 +178,15 @@ synced_document doc new s is same = record {
   sound = sound_sync s is.sound;
 }
 
-pub flushed_carries : (doc : Document) (s : State) (bytes : List ℕ) → StandsFor doc s → bytes ≡ spell_queue doc.queue → IfSome s.synced (λ book. Carries s.sent bytes book s.present)
+pub flushed_carries : (doc : Document) (s : State) (bytes : List ℕ) → StandsFor doc s → bytes ≡ encode_queue doc.queue → IfSome s.synced (λ book. Carries s.sent bytes book s.present)
 flushed_carries doc s bytes stands is = go s.synced (leads_on s stands.sound.carries)
   where
-    spelled : bytes ≡ spell_queue s.sent
-    spelled = is ∙ ap (λ (d : Document). spell_queue d.queue) stands.document
+    encoded : bytes ≡ encode_queue s.sent
+    encoded = is ∙ ap (λ (d : Document). encode_queue d.queue) stands.document
 
     go : (synced : Option Book) → IfSome synced (λ book. replayed book s.sent ≡ Ok s.present) → IfSome synced (λ book. Carries s.sent bytes book s.present)
     go None led = tt
-    go (Some book) led = record { spelled = spelled; led = led }
+    go (Some book) led = record { encoded = encoded; led = led }
 
 pub flushed_fits : (doc : Document) (s : State) → StandsFor doc s → FitsQueue doc.queue → FitsQueue s.sent
 flushed_fits doc s stands fits = subst (λ (d : Document). FitsQueue d.queue) stands.document fits

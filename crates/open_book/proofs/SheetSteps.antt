@@ -36,7 +36,7 @@ use Rattle.open_book.specs.BothWays.{GoesBothWays}
 use Rattle.open_book.specs.Document.{Document}
 use Rattle.open_book.specs.Sound.{IsExact, IsOneDiff}
 use Rattle.open_book.specs.Stands.{IsPlanOf, IsStepBy}
-use Rattle.open_book.proofs.SheetsSpelled.{sheets_spellable}
+use Rattle.open_book.proofs.SheetsEncoded.{sheets_encodable}
 
 -- what holds of each accepted edit of the list of the sheets of a well-formed workbook
 abbrev pub SheetLaw : Type 0
@@ -190,7 +190,7 @@ module _ (law : SheetLaw) (edit : Edit) (is : IsTrue (is_of_sheets edit)) where
             forth = it.forth;
             back = it.back;
             exact = it.exact;
-            spellable = sheets_spellable doc.book rules edit is later (subst IsCanonicalList plan.recorded plan.canonical);
+            encodable = sheets_encodable doc.book rules edit is later (subst IsCanonicalList plan.recorded plan.canonical);
           };
           canonical = plan.canonical;
         }

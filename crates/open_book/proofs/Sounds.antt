@@ -14,7 +14,7 @@ use Rattle.sheet_history.specs.declared.QueueDiffs.{QueueDiffs}
 use Rattle.sheet_history.specs.Diffs.{book_after, book_before, follow, in_entry, replayed}
 use Rattle.sheet_history.specs.laws.ReplayLaws.{replayed_from-push}
 use Rattle.sheet_history.specs.laws.TestedLaws.{tested_rules, entry_rules}
-use Rattle.sheet_wire.specs.QueueBytes.{IsKnownEntry, spell_queue}
+use Rattle.sheet_wire.specs.QueueBytes.{IsKnownEntry, encode_queue}
 use Rattle.sheet_views.specs.declared.View.{View}
 use Rattle.edit_plans.specs.Edits.{Edit, changed, is_silent}
 use Rattle.sheet_history.specs.Selection.{selection_followed}
@@ -25,10 +25,10 @@ use Rattle.edit_plans.specs.ViewSteps.{view_after}
 use Rattle.edit_plans.specs.laws.SeenLaws.{seen_after, some_sheet}
 use Rattle.open_book.specs.Machine.{Step, State, step_record, begun, undo_list, redo_list, entry, moved, edited, edit_of, undo_stale, undo_from, undo_of, redo_stale, redo_from, redo_of, seen_along, synced_of, outside, received, sync_bytes}
 use Rattle.open_book.specs.Sound.{IsSoundChange, IsSoundStep, Leads, Follows, Carries, CarriesOn, IsSound}
-use Rattle.open_book.specs.Spellable.{AreSpellable}
+use Rattle.open_book.specs.Encodable.{AreEncodable}
 
 pub sound_begun : (language : Language) (book : Book) → IsWellFormed book → IsSound (begun language book)
-sound_begun language book rules = record { present = rules; seen = record { there = some_sheet book rules; inside = refl }; past = tt; undone = tt; carries = record { spelled = refl; led = refl }; spellable = tt; stale_undo = tt; stale_redo = tt }
+sound_begun language book rules = record { present = rules; seen = record { there = some_sheet book rules; inside = refl }; past = tt; undone = tt; carries = record { encoded = refl; led = refl }; encodable = tt; stale_undo = tt; stale_redo = tt }
 
 -- ---- lists of records
 
@@ -40,13 +40,13 @@ all_append : {A : Type 0} (P : A → Type 0) (xs ys : List A) → AllByRecursion
 all_append P [] ys one two = two
 all_append P (x ∷ xs) ys one two = (one.0, all_append P xs ys one.1 two)
 
-past_spellable : (steps : List Step) (book : Book) → Leads steps book → AllByRecursion AreSpellable (map step_record steps)
-past_spellable [] book leads = tt
-past_spellable (step ∷ steps) book leads = (leads.1.spellable, past_spellable steps step.before leads.2)
+past_encodable : (steps : List Step) (book : Book) → Leads steps book → AllByRecursion AreEncodable (map step_record steps)
+past_encodable [] book leads = tt
+past_encodable (step ∷ steps) book leads = (leads.1.encodable, past_encodable steps step.before leads.2)
 
-undone_spellable : (steps : List Step) (book : Book) → Follows steps book → AllByRecursion AreSpellable (map step_record steps)
-undone_spellable [] book follows = tt
-undone_spellable (step ∷ steps) book follows = (follows.1.spellable, undone_spellable steps step.after follows.2)
+undone_encodable : (steps : List Step) (book : Book) → Follows steps book → AllByRecursion AreEncodable (map step_record steps)
+undone_encodable [] book follows = tt
+undone_encodable (step ∷ steps) book follows = (follows.1.encodable, undone_encodable steps step.after follows.2)
 
 -- ---- what is sent
 
@@ -69,16 +69,16 @@ leads_on s carries = go s.synced carries
 
 -- and its bytes carry on where it leads on
 carries_on : (synced : Option Book) (sent : List QueueDiffs) (present : Book)
-    → IfSome synced (λ book. replayed book sent ≡ Ok present) → IfSome synced (λ book. Carries sent (spell_queue sent) book present)
+    → IfSome synced (λ book. replayed book sent ≡ Ok present) → IfSome synced (λ book. Carries sent (encode_queue sent) book present)
 carries_on None sent present led = tt
-carries_on (Some book) sent present led = record { spelled = refl; led = led }
+carries_on (Some book) sent present led = record { encoded = refl; led = led }
 
 module _ (s : State) (sound : IsSound s) where
-  pub undo_spellable : AllByRecursion AreSpellable (undo_list s)
-  undo_spellable = all_append AreSpellable (map step_record s.past) s.stale_undo (past_spellable s.past s.present sound.past) sound.stale_undo
+  pub undo_encodable : AllByRecursion AreEncodable (undo_list s)
+  undo_encodable = all_append AreEncodable (map step_record s.past) s.stale_undo (past_encodable s.past s.present sound.past) sound.stale_undo
 
-  pub redo_spellable : AllByRecursion AreSpellable (redo_list s)
-  redo_spellable = all_append AreSpellable (map step_record s.undone) s.stale_redo (undone_spellable s.undone s.present sound.undone) sound.stale_redo
+  pub redo_encodable : AllByRecursion AreEncodable (redo_list s)
+  redo_encodable = all_append AreEncodable (map step_record s.undone) s.stale_redo (undone_encodable s.undone s.present sound.undone) sound.stale_redo
 
   -- what is seen of a well-formed workbook to which a list led
   seen_followed : (kind : DiffType) (list : List Diff) (later : Book) → IsWellFormed later → IsViewOf (length later.worksheets) (seen_along kind list later s)
@@ -88,15 +88,15 @@ module _ (s : State) (sound : IsSound s) where
 
   -- a list that was followed and sent
   sound_moved : (kind : DiffType) (list : List Diff) (later : Book) (view : View) (past undone : List Step) (stale_undo stale_redo : List (List Diff))
-      → IsWellFormed later → IsViewOf (length later.worksheets) view → follow kind s.present list ≡ Ok later → AreSpellable list → Leads past later → Follows undone later
-      → AllByRecursion AreSpellable stale_undo → AllByRecursion AreSpellable stale_redo → IsSound (moved kind list later view past undone stale_undo stale_redo s)
-  sound_moved kind list later view past undone stale_undo stale_redo rules seen is spellable leads follows one two = record {
+      → IsWellFormed later → IsViewOf (length later.worksheets) view → follow kind s.present list ≡ Ok later → AreEncodable list → Leads past later → Follows undone later
+      → AllByRecursion AreEncodable stale_undo → AllByRecursion AreEncodable stale_redo → IsSound (moved kind list later view past undone stale_undo stale_redo s)
+  sound_moved kind list later view past undone stale_undo stale_redo rules seen is encodable leads follows one two = record {
     present = rules;
     seen = seen;
     past = leads;
     undone = follows;
     carries = carries_on s.synced (s.sent ++ entry kind list ∷ []) later (replays_more s.synced s.sent s.present later kind list (leads_on s sound.carries) is);
-    spellable = all_push IsKnownEntry s.sent (entry kind list) sound.spellable spellable;
+    encodable = all_push IsKnownEntry s.sent (entry kind list) sound.encodable encodable;
     stale_undo = one;
     stale_redo = two;
   }
@@ -107,7 +107,7 @@ module _ (s : State) (sound : IsSound s) where
   sound_edited edit later how step =
       let it : Step = record { edit = edit; before = s.present; after = later } in
       sound_moved Redo (step_record it) later (view_after edit s.present later s.view) (it ∷ s.past) [] s.stale_undo [] step.after
-      (seen_after edit s.present later s.view step.after how sound.seen.inside) step.forth step.spellable (refl, step, sound.past) tt sound.stale_undo tt
+      (seen_after edit s.present later s.view step.after how sound.seen.inside) step.forth step.encodable (refl, step, sound.past) tt sound.stale_undo tt
 
   -- the state after an edit that is not refused is sound, if its step is
   pub sound_edit : (edit : Edit) (next : State) → IsSoundChange edit s.present → edit_of edit s ≡ Ok next → IsSound next
@@ -126,14 +126,14 @@ module _ (s : State) (sound : IsSound s) where
   abbrev stale_undone : List Diff → List (List Diff) → Book → State
   stale_undone list stale earlier = moved Undo list earlier (seen_along Undo list earlier s) [] [] stale (list ∷ redo_list s) s
 
-  undo_stale_sound : (stale : List (List Diff)) (next : State) → AllByRecursion AreSpellable stale → undo_stale stale s ≡ Ok next → IsSound next
+  undo_stale_sound : (stale : List (List Diff)) (next : State) → AllByRecursion AreEncodable stale → undo_stale stale s ≡ Ok next → IsSound next
   undo_stale_sound [] next all is = let same : s ≡ next = cc in subst IsSound same sound
   undo_stale_sound (list ∷ stale) next all is = go (book_before s.present list) refl is
     where
       go : (r : Result Book EditError) → book_before s.present list ≡ r → map_ok (stale_undone list stale) r ≡ Ok next → IsSound next
       go (Ok earlier) how e =
           let same : stale_undone list stale earlier ≡ next = cc in
-          subst IsSound same (sound_moved Undo list earlier (seen_along Undo list earlier s) [] [] stale (list ∷ redo_list s) (tested_rules _ _ earlier how) (seen_followed Undo list earlier (tested_rules _ _ earlier how)) how all.0 tt tt all.1 (all.0, redo_spellable))
+          subst IsSound same (sound_moved Undo list earlier (seen_along Undo list earlier s) [] [] stale (list ∷ redo_list s) (tested_rules _ _ earlier how) (seen_followed Undo list earlier (tested_rules _ _ earlier how)) how all.0 tt tt all.1 (all.0, redo_encodable))
       go (Err error) how e = absurd (let never : ◌≡◌ {A = Result State EditError} (Err error) (Ok next) = e in cc)
 
   undo_from_sound : (past : List Step) (next : State) → Leads past s.present → undo_from past s ≡ Ok next → IsSound next
@@ -142,7 +142,7 @@ module _ (s : State) (sound : IsSound s) where
       let same : moved Undo (step_record step) step.before (seen_along Undo (step_record step) step.before s) past (step ∷ s.undone) s.stale_undo s.stale_redo s ≡ next = cc in
       subst IsSound same
       (sound_moved Undo (step_record step) step.before (seen_along Undo (step_record step) step.before s) past (step ∷ s.undone) s.stale_undo s.stale_redo leads.1.before (seen_followed Undo (step_record step) step.before leads.1.before)
-      (ap (λ book. book_before book (step_record step)) (sym leads.0) ∙ leads.1.back) leads.1.spellable leads.2
+      (ap (λ book. book_before book (step_record step)) (sym leads.0) ∙ leads.1.back) leads.1.encodable leads.2
       (refl, leads.1, subst (Follows s.undone) (sym leads.0) sound.undone) sound.stale_undo sound.stale_redo)
 
   pub sound_undo : (next : State) → undo_of s ≡ Ok next → IsSound next
@@ -153,14 +153,14 @@ module _ (s : State) (sound : IsSound s) where
   abbrev stale_redone : List Diff → List (List Diff) → Book → State
   stale_redone list stale later = moved Redo list later (seen_along Redo list later s) [] [] (list ∷ undo_list s) stale s
 
-  redo_stale_sound : (stale : List (List Diff)) (next : State) → AllByRecursion AreSpellable stale → redo_stale stale s ≡ Ok next → IsSound next
+  redo_stale_sound : (stale : List (List Diff)) (next : State) → AllByRecursion AreEncodable stale → redo_stale stale s ≡ Ok next → IsSound next
   redo_stale_sound [] next all is = let same : s ≡ next = cc in subst IsSound same sound
   redo_stale_sound (list ∷ stale) next all is = go (book_after s.present list) refl is
     where
       go : (r : Result Book EditError) → book_after s.present list ≡ r → map_ok (stale_redone list stale) r ≡ Ok next → IsSound next
       go (Ok later) how e =
           let same : stale_redone list stale later ≡ next = cc in
-          subst IsSound same (sound_moved Redo list later (seen_along Redo list later s) [] [] (list ∷ undo_list s) stale (tested_rules _ _ later how) (seen_followed Redo list later (tested_rules _ _ later how)) how all.0 tt tt (all.0, undo_spellable) all.1)
+          subst IsSound same (sound_moved Redo list later (seen_along Redo list later s) [] [] (list ∷ undo_list s) stale (tested_rules _ _ later how) (seen_followed Redo list later (tested_rules _ _ later how)) how all.0 tt tt (all.0, undo_encodable) all.1)
       go (Err error) how e = absurd (let never : ◌≡◌ {A = Result State EditError} (Err error) (Ok next) = e in cc)
 
   redo_from_sound : (undone : List Step) (next : State) → Follows undone s.present → redo_from undone s ≡ Ok next → IsSound next
@@ -169,7 +169,7 @@ module _ (s : State) (sound : IsSound s) where
       let same : moved Redo (step_record step) step.after (seen_along Redo (step_record step) step.after s) (step ∷ s.past) undone s.stale_undo s.stale_redo s ≡ next = cc in
       subst IsSound same
       (sound_moved Redo (step_record step) step.after (seen_along Redo (step_record step) step.after s) (step ∷ s.past) undone s.stale_undo s.stale_redo follows.1.after (seen_followed Redo (step_record step) step.after follows.1.after)
-      (ap (λ book. book_after book (step_record step)) (sym follows.0) ∙ follows.1.forth) follows.1.spellable
+      (ap (λ book. book_after book (step_record step)) (sym follows.0) ∙ follows.1.forth) follows.1.encodable
       (refl, follows.1, subst (Leads s.past) (sym follows.0) sound.past) follows.2 sound.stale_undo sound.stale_redo)
 
   pub sound_redo : (next : State) → redo_of s ≡ Ok next → IsSound next
@@ -184,13 +184,13 @@ module _ (s : State) (sound : IsSound s) where
     past = sound.past;
     undone = sound.undone;
     carries = sound.carries;
-    spellable = sound.spellable;
+    encodable = sound.encodable;
     stale_undo = sound.stale_undo;
     stale_redo = sound.stale_redo;
   }
 
   pub sound_sync : IsSound (synced_of s)
-  sound_sync = record { present = sound.present; seen = sound.seen; past = sound.past; undone = sound.undone; carries = record { spelled = refl; led = refl }; spellable = tt; stale_undo = sound.stale_undo; stale_redo = sound.stale_redo }
+  sound_sync = record { present = sound.present; seen = sound.seen; past = sound.past; undone = sound.undone; carries = record { encoded = refl; led = refl }; encodable = tt; stale_undo = sound.stale_undo; stale_redo = sound.stale_redo }
 
   pub sound_received : (at : ℕ) (one : QueueDiffs) (next : State) → received at one s ≡ Ok next → IsSound next
   sound_received at one next is = go (in_entry at (follow one.kind s.present one.list)) refl is
@@ -204,8 +204,8 @@ module _ (s : State) (sound : IsSound s) where
             past = tt;
             undone = tt;
             carries = tt;
-            spellable = sound.spellable;
-            stale_undo = undo_spellable;
-            stale_redo = redo_spellable;
+            encodable = sound.encodable;
+            stale_undo = undo_encodable;
+            stale_redo = redo_encodable;
           })
       go (Err error) how e = absurd (let never : ◌≡◌ {A = Result State EditError} (Err error) (Ok next) = e in cc)

@@ -1,5 +1,5 @@
 pub mod Far
-pub mod Spellable
+pub mod Encodable
 pub mod Views
 pub mod Machine
 pub mod Document

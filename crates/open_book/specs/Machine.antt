@@ -12,7 +12,7 @@ use Rattle.sheet_history.specs.declared.DiffType.{DiffType}
 use Rattle.sheet_history.specs.declared.DiffType.TheVariants.{Undo, Redo}
 use Rattle.sheet_history.specs.declared.QueueDiffs.{QueueDiffs}
 use Rattle.sheet_history.specs.Diffs.{book_before, book_after, follow, in_entry}
-use Rattle.sheet_wire.specs.QueueBytes.{spell_queue}
+use Rattle.sheet_wire.specs.QueueBytes.{encode_queue}
 use Rattle.edit_plans.specs.Edits.{Edit, changed, is_silent, record_of}
 use Rattle.edit_plans.specs.ViewSteps.{view_after}
 use Rattle.open_book.specs.Views.{sheet_chosen, view_followed}
@@ -153,7 +153,7 @@ range_selected first_row first_column last_row last_column s = looking (range_ch
 
 -- the bytes of a sync
 abbrev pub sync_bytes : State → List ℕ
-sync_bytes s = spell_queue s.sent
+sync_bytes s = encode_queue s.sent
 
 -- after a sync
 abbrev pub synced_of : State → State

@@ -17,8 +17,8 @@ use Rattle.sheet_history.specs.declared.QueueDiffs.{QueueDiffs}
 use Rattle.sheet_history.specs.LineDiffs.{along_of}
 use Rattle.sheet_history.specs.Diffs.{book_after, book_before, replayed}
 use Rattle.sheet_history.specs.Records.{IsRecord, line_record}
-use Rattle.sheet_wire.specs.QueueBytes.{FitsQueue, IsKnownQueue, spell_queue}
-use Rattle.open_book.specs.Spellable.{AreSpellable}
+use Rattle.sheet_wire.specs.QueueBytes.{FitsQueue, IsKnownQueue, encode_queue}
+use Rattle.open_book.specs.Encodable.{AreEncodable}
 use Rattle.edit_plans.specs.Edits.{Edit, changed, grown_move, is_silent}
 use Rattle.edit_plans.specs.Edits.Edit.{Lines, MoveLines, AddSheet, CopySheet, DeleteSheet, MoveSheet, RenameSheet, ChangeNames, EditRules}
 use Rattle.name_edits.specs.NameEdits.{name_change}
@@ -61,7 +61,7 @@ pub record IsSoundStep (step : Step) : Type 0 where
   pub forth : book_after step.before (step_record step) ≡ Ok step.after
   pub back : book_before step.after (step_record step) ≡ Ok step.before
   pub exact : IsExact step.edit step.before step.after (step_record step)
-  pub spellable : AreSpellable (step_record step)
+  pub encodable : AreEncodable (step_record step)
 
 -- an edit of a workbook is a sound step, if it is accepted and does something
 abbrev pub IsSoundChange : Edit → Book → Type 0
@@ -77,25 +77,25 @@ abbrev pub Follows : List Step → Book → Type 0
 Follows [] book = Unit {0}
 Follows (step ∷ undone) book = (step.before ≡ book) × IsSoundStep step × Follows undone step.after
 
--- bytes carry a workbook to a later one: they spell entries, and following these leads there
+-- bytes carry a workbook to a later one: they encode entries, and following these leads there
 pub record Carries (entries : List QueueDiffs) (bytes : List ℕ) (earlier later : Book) : Type 0 where
-  pub spelled : bytes ≡ spell_queue entries
+  pub encoded : bytes ≡ encode_queue entries
   pub led : replayed earlier entries ≡ Ok later
 
 -- bytes carry the workbook of the last sync, where it is known, to the present one
 abbrev pub CarriesOn : List ℕ → State → Type 0
 CarriesOn bytes s = IfSome s.synced (λ book. Carries s.sent bytes book s.present)
 
--- what is said of the entries that bytes spell
-abbrev pub WhereSpelled : List ℕ → (List QueueDiffs → Type 0) → Type 0
-WhereSpelled bytes Said = (entries : List QueueDiffs) → FitsQueue entries → bytes ≡ spell_queue entries → Said entries
+-- what is said of the entries that bytes encode
+abbrev pub WhereEncoded : List ℕ → (List QueueDiffs → Type 0) → Type 0
+WhereEncoded bytes Said = (entries : List QueueDiffs) → FitsQueue entries → bytes ≡ encode_queue entries → Said entries
 
 -- what is said of each later workbook to which bytes carry an earlier one
 abbrev pub WhereCarried : List ℕ → Book → (Book → Type 0) → Type 0
 WhereCarried bytes earlier Said = (entries : List QueueDiffs) (later : Book) → FitsQueue entries → Carries entries bytes earlier later → Said later
 
 -- the present workbook is well-formed, the steps that can be undone lead to it and those that were undone lead on from it, and the bytes
--- of a sync carry the workbook of the last one, where that is known, to it; each list that is kept can be spelled; and the view names a
+-- of a sync carry the workbook of the last one, where that is known, to it; each list that is kept can be encoded; and the view names a
 -- sheet of the present workbook, and a rectangle inside it
 pub record IsSound (s : State) : Type 0 where
   pub present : IsWellFormed s.present
@@ -103,6 +103,6 @@ pub record IsSound (s : State) : Type 0 where
   pub past : Leads s.past s.present
   pub undone : Follows s.undone s.present
   pub carries : CarriesOn (sync_bytes s) s
-  pub spellable : IsKnownQueue s.sent
-  pub stale_undo : AllByRecursion AreSpellable s.stale_undo
-  pub stale_redo : AllByRecursion AreSpellable s.stale_redo
+  pub encodable : IsKnownQueue s.sent
+  pub stale_undo : AllByRecursion AreEncodable s.stale_undo
+  pub stale_redo : AllByRecursion AreEncodable s.stale_redo

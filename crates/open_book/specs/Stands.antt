@@ -40,7 +40,7 @@ abbrev pub Steps : {T : Type 0} → Result T EditError → Document → Document
 Steps result old new next = OnStates old (λ state. Moves result new (next state))
 
 -- the same of a call whose tests take memory
-pub record Turns {T : Type 0} (result : Result T EditError) (new : Document) (expected : Result State EditError) : Type 0 where
+pub record MovesOrNoMemory {T : Type 0} (result : Result T EditError) (new : Document) (expected : Result State EditError) : Type 0 where
   pub done : OnOk result (IsOkAnd expected (StandsFor new))
   pub refused : IfErr result (λ error. error ≢ NoMemory → expected ≡ Err error)
 

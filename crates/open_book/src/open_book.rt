@@ -15,7 +15,7 @@ ghost use Rattle.edit_plans.specs.HiddenLines.{grown};
 ghost use Rattle.edit_plans.specs.Edits.Edit.{Lines, MoveLines};
 ghost use Rattle.open_book.specs.Document.{recorded, sending, stale_after};
 ghost use Rattle.open_book.specs.Far.{is_far};
-ghost use Rattle.open_book.specs.Spellable.{AreSpellable};
+ghost use Rattle.open_book.specs.Encodable.{AreEncodable};
 
 use crate::install::{install, install_viewed, values_of};
 use crate::recalc::{Recalc, Results};
@@ -54,7 +54,7 @@ fn list_of(alloc: Global, diff: Diff) -> Result<DiffList, EditError>
     requires known { IsKnownDiff diff }
     ensures output { Returns result (Ok (diff ∷ [])) }
     ensures canonical { IfOk result IsCanonicalList }
-    ensures spellable { IfOk result AreSpellable }
+    ensures encodable { IfOk result AreEncodable }
 {
     let mut list = Items::with_room(alloc, 1)?;
     list.push(diff)?;
@@ -73,7 +73,7 @@ fn lines_change(
     requires known { IsKnownDiff (LinesDiff sheet axis edit kept) }
     ensures output { Returns result (Ok (LinesDiff sheet axis edit kept ∷ [])) }
     ensures canonical { IfOk result IsCanonicalList }
-    ensures spellable { IfOk result AreSpellable }
+    ensures encodable { IfOk result AreEncodable }
 {
     let kept = Shared::new(alloc, kept)?;
     list_of(
@@ -394,7 +394,7 @@ impl OpenBook {
         requires along { A.along ≡ along_of axis }
         requires edit { IsLineEdit axis edit.now.kind id self.now.workbook }
         ensures document { Edits result (document_in self.old) (document_in self.new) (Ok (lines_recorded axis edit.now.kind id (document_in self.old))) }
-        ensures spellable { OnOk result (AreSpellable (line_record axis edit.now.kind id self.old.workbook)) }
+        ensures encodable { OnOk result (AreEncodable (line_record axis edit.now.kind id self.old.workbook)) }
         ensures output { OnOk result (IsMade R.Fits (session_of self.new results.new)) }
         ensures err { OnErr result (results.new ≡ results.old) }
         ensures paused { results.new.paused ≡ results.old.paused }

@@ -22,21 +22,21 @@ use sheet_grid::{DefaultStyle, LineAttr, Worksheet};
 /// Whether the change may be made of what a place shows, if the place is touched.
 fn accepts_place<C: StyleChange>(
     sheet: &Worksheet,
-    plain: &DefaultStyle,
+    default: &DefaultStyle,
     range: StyleRange,
     change: &C,
     place: Position,
 ) -> bool
     ensures { result ≡ place_accepts range (C.takes change.now) sheet.now place }
 {
-    !touches(range, sheet, plain, place)
-        || change.accepts(place, sheet.shown_style_at(place, plain).get())
+    !touches(range, sheet, default, place)
+        || change.accepts(place, sheet.shown_style_at(place, default).get())
 }
 
 /// The same of the places of a line.
 fn accepts_line<A: Axis, C: StyleChange>(
     sheet: &Worksheet,
-    plain: &DefaultStyle,
+    default: &DefaultStyle,
     range: StyleRange,
     change: &C,
     line: i32,
@@ -47,7 +47,7 @@ fn accepts_line<A: Axis, C: StyleChange>(
     let mut all = true;
     for index in 0..count_across::<A>(range.area) {
         let place = place_across::<A>(range.area, line, index);
-        all = all && accepts_place(sheet, plain, range, change, place);
+        all = all && accepts_place(sheet, default, range, change, place);
     }
     all
 }
@@ -55,7 +55,7 @@ fn accepts_line<A: Axis, C: StyleChange>(
 /// The same, which holds where the line is none of the range.
 fn accepts_own_line<A: Axis, C: StyleChange>(
     sheet: &Worksheet,
-    plain: &DefaultStyle,
+    default: &DefaultStyle,
     range: StyleRange,
     change: &C,
     line: i32,
@@ -64,7 +64,7 @@ fn accepts_own_line<A: Axis, C: StyleChange>(
     ensures { result ≡ line_passes (place_accepts range (C.takes change.now) sheet.now) A.along range.area line }
 {
     if has_line::<A>(range.area, line) {
-        accepts_line::<A, C>(sheet, plain, range, change, line)
+        accepts_line::<A, C>(sheet, default, range, change, line)
     } else {
         true
     }
@@ -73,7 +73,7 @@ fn accepts_own_line<A: Axis, C: StyleChange>(
 /// The same of the places of all rows of a range.
 fn accepts_rows<C: StyleChange>(
     sheet: &Worksheet,
-    plain: &DefaultStyle,
+    default: &DefaultStyle,
     range: StyleRange,
     change: &C,
 ) -> bool
@@ -84,7 +84,7 @@ fn accepts_rows<C: StyleChange>(
     let mut all = true;
     for index in 0..range.area.height.unsigned_abs() {
         let row = row_at(range.area, index);
-        all = all && accepts_line::<RowAxis, C>(sheet, plain, range, change, row);
+        all = all && accepts_line::<RowAxis, C>(sheet, default, range, change, row);
     }
     all
 }
@@ -92,7 +92,7 @@ fn accepts_rows<C: StyleChange>(
 /// The same of the places of a line, if the line has a style.
 fn accepts_styled<A: Axis, C: StyleChange>(
     sheet: &Worksheet,
-    plain: &DefaultStyle,
+    default: &DefaultStyle,
     range: StyleRange,
     change: &C,
     line: i32,
@@ -103,13 +103,13 @@ fn accepts_styled<A: Axis, C: StyleChange>(
         (not (has_own_style attr.now)
         || line_passes (place_accepts range (C.takes change.now) sheet.now) A.along range.area line) }
 {
-    !has_own_style(attr) || accepts_own_line::<A, C>(sheet, plain, range, change, line)
+    !has_own_style(attr) || accepts_own_line::<A, C>(sheet, default, range, change, line)
 }
 
 /// The same of the places of the lines that have a style.
 fn accepts_styled_lines<A: Axis, C: StyleChange>(
     sheet: &Worksheet,
-    plain: &DefaultStyle,
+    default: &DefaultStyle,
     range: StyleRange,
     change: &C,
     lines: &AxisMap<A, LineAttr>,
@@ -120,7 +120,7 @@ fn accepts_styled_lines<A: Axis, C: StyleChange>(
 {
     let mut all = true;
     for (line, attr) in lines.iter() {
-        all = all && accepts_styled::<A, C>(sheet, plain, range, change, *line, attr);
+        all = all && accepts_styled::<A, C>(sheet, default, range, change, *line, attr);
     }
     all
 }
@@ -128,30 +128,30 @@ fn accepts_styled_lines<A: Axis, C: StyleChange>(
 /// The same of the places that have a cell.
 fn accepts_cells<C: StyleChange>(
     sheet: &Worksheet,
-    plain: &DefaultStyle,
+    default: &DefaultStyle,
     range: StyleRange,
     change: &C,
 ) -> bool
     ensures { result ≡ places_all (place_accepts range (C.takes change.now) sheet.now) sheet.now.cells }
 {
-    sheet.cells().all(|(place, _cell)| accepts_place(sheet, plain, range, change, *place))
+    sheet.cells().all(|(place, _cell)| accepts_place(sheet, default, range, change, *place))
 }
 
 /// The same of the places that are stored, as far as a range may touch them.
 fn accepts_stored<C: StyleChange>(
     sheet: &Worksheet,
-    plain: &DefaultStyle,
+    default: &DefaultStyle,
     range: StyleRange,
     change: &C,
 ) -> bool
     requires { IsInside range.area }
     ensures { result ≡ stored_pass (place_accepts range (C.takes change.now) sheet.now) range sheet.now }
 {
-    accepts_cells(sheet, plain, range, change)
+    accepts_cells(sheet, default, range, change)
         && (!reaches_rows(range)
-            || accepts_styled_lines(sheet, plain, range, change, sheet.row_map()))
+            || accepts_styled_lines(sheet, default, range, change, sheet.row_map()))
         && (!reaches_columns(range)
-            || accepts_styled_lines(sheet, plain, range, change, sheet.column_map()))
+            || accepts_styled_lines(sheet, default, range, change, sheet.column_map()))
 }
 
 /// The same of the places of a range. It goes over all of them where each is touched, or where they
@@ -159,7 +159,7 @@ fn accepts_stored<C: StyleChange>(
 #[tactic(auto, using(crate::specs::laws::RangeLaws::rows_accept, crate::specs::laws::RangeLaws::stored_accept))]
 fn accepts_range<C: StyleChange>(
     sheet: &Worksheet,
-    plain: &DefaultStyle,
+    default: &DefaultStyle,
     range: StyleRange,
     change: &C,
 ) -> bool
@@ -167,26 +167,26 @@ fn accepts_range<C: StyleChange>(
     ensures { result ≡ list_all (place_accepts range (C.takes change.now) sheet.now) (places_of range.area) }
 {
     if reaches_all(range) {
-        return accepts_rows(sheet, plain, range, change);
+        return accepts_rows(sheet, default, range, change);
     }
     if is_small(range.area, sheet) {
-        return accepts_rows(sheet, plain, range, change);
+        return accepts_rows(sheet, default, range, change);
     }
-    accepts_stored(sheet, plain, range, change)
+    accepts_stored(sheet, default, range, change)
 }
 
 /// Whether the change may be made of each style of a place or a line that a range touches.
 #[tactic(auto, unfolding(crate::specs::Styled::all_accept))]
 pub(crate) fn all_accept<C: StyleChange>(
     sheet: &Worksheet,
-    plain: &DefaultStyle,
+    default: &DefaultStyle,
     range: StyleRange,
     change: &C,
 ) -> bool
     requires { IsInside range.area }
     ensures { result ≡ all_accept range (C.takes change.now) sheet.now }
 {
-    accepts_range(sheet, plain, range, change)
-        && accepts_lines(plain, range, change, sheet.column_map())
-        && accepts_lines(plain, range, change, sheet.row_map())
+    accepts_range(sheet, default, range, change)
+        && accepts_lines(default, range, change, sheet.column_map())
+        && accepts_lines(default, range, change, sheet.row_map())
 }

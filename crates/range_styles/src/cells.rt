@@ -56,7 +56,7 @@ fn styled_cell(
 struct Styling<'a, C: StyleChange> {
     alloc: Global,
     sheet: &'a Worksheet,
-    plain: &'a DefaultStyle,
+    default: &'a DefaultStyle,
     range: StyleRange,
     change: &'a C,
 }
@@ -74,10 +74,10 @@ impl<'a, C: StyleChange> PlaceEdit<Option<Shared<Cell>>> for Styling<'a, C> {
     }
 
     fn entry_at(&self, place: Position) -> Result<Option<Option<Shared<Cell>>>, EditError> {
-        if !touches(self.range, self.sheet, self.plain, place) {
+        if !touches(self.range, self.sheet, self.default, place) {
             return Ok(None);
         }
-        let style = self.sheet.shown_style_at(place, self.plain);
+        let style = self.sheet.shown_style_at(place, self.default);
         let style = self.change.style_at(place, style)?;
         let entry = self.sheet.cell_map().get(place);
         Ok(Some(Some(styled_cell(self.alloc, entry, style)?)))
@@ -207,7 +207,7 @@ fn plan_range<C: StyleChange>(
 pub(crate) fn styled_cells<C: StyleChange>(
     alloc: Global,
     sheet: &Worksheet,
-    plain: &DefaultStyle,
+    default: &DefaultStyle,
     range: StyleRange,
     change: &C,
 ) -> Result<PlannedCells, EditError>
@@ -221,7 +221,7 @@ pub(crate) fn styled_cells<C: StyleChange>(
     let edit = Styling {
         alloc,
         sheet,
-        plain,
+        default,
         range,
         change,
     };

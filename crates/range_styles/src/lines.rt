@@ -59,7 +59,7 @@ fn touches_line<A: Axis>(range: StyleRange, lines: &AxisMap<A, LineAttr>, line: 
 
 /// Whether the change may be made of the style of a line, if the line is touched.
 fn accepts_line<A: Axis, C: StyleChange>(
-    plain: &DefaultStyle,
+    default: &DefaultStyle,
     range: StyleRange,
     change: &C,
     lines: &AxisMap<A, LineAttr>,
@@ -71,13 +71,13 @@ fn accepts_line<A: Axis, C: StyleChange>(
         || (range.clears
             || change.accepts(
                 line_place::<A>(line),
-                line_style(lines.get(line), plain).get(),
+                line_style(lines.get(line), default).get(),
             ))
 }
 
 /// The same of each line of a rectangle.
 fn accepts_each<A: Axis, C: StyleChange>(
-    plain: &DefaultStyle,
+    default: &DefaultStyle,
     range: StyleRange,
     change: &C,
     lines: &AxisMap<A, LineAttr>,
@@ -90,7 +90,7 @@ fn accepts_each<A: Axis, C: StyleChange>(
     let mut all = true;
     for index in 0..count_lines::<A>(range.area) {
         let line = line_in::<A>(range.area, index);
-        all = all && accepts_line(plain, range, change, lines, line);
+        all = all && accepts_line(default, range, change, lines, line);
     }
     all
 }
@@ -98,7 +98,7 @@ fn accepts_each<A: Axis, C: StyleChange>(
 /// Whether the change may be made of the style of each line that a range touches. It takes no memory.
 #[tactic(auto, using(crate::specs::laws::RangeLaws::each_accepts, crate::specs::laws::RangeLaws::clears_accept, crate::specs::laws::RangeLaws::none_accept))]
 pub(crate) fn accepts_lines<A: Axis, C: StyleChange>(
-    plain: &DefaultStyle,
+    default: &DefaultStyle,
     range: StyleRange,
     change: &C,
     lines: &AxisMap<A, LineAttr>,
@@ -112,14 +112,14 @@ pub(crate) fn accepts_lines<A: Axis, C: StyleChange>(
     if !has_lines::<A>(range.kind) {
         return true;
     }
-    accepts_each(plain, range, change, lines)
+    accepts_each(default, range, change, lines)
 }
 
 /// The style that a line may have of its own: a row does not have the default one.
-fn stored_style<A: Axis>(plain: &DefaultStyle, style: Shared<Style>) -> Option<Shared<Style>>
+fn stored_style<A: Axis>(default: &DefaultStyle, style: Shared<Style>) -> Option<Shared<Style>>
     ensures { result ≡ stored_style A.along style }
 {
-    if A::of(true, false) && is_default(plain, &style) {
+    if A::of(true, false) && is_default(default, &style) {
         None
     } else {
         Some(style)
@@ -128,7 +128,7 @@ fn stored_style<A: Axis>(plain: &DefaultStyle, style: Shared<Style>) -> Option<S
 
 /// What the change makes of the style of a line that has this of its own.
 fn style_made<A: Axis, C: StyleChange>(
-    plain: &DefaultStyle,
+    default: &DefaultStyle,
     range: StyleRange,
     change: &C,
     line: i32,
@@ -139,8 +139,8 @@ fn style_made<A: Axis, C: StyleChange>(
     if range.clears {
         return Ok(None);
     }
-    let style = change.style_at(line_place::<A>(line), line_style(entry, plain))?;
-    Ok(stored_style::<A>(plain, style))
+    let style = change.style_at(line_place::<A>(line), line_style(entry, default))?;
+    Ok(stored_style::<A>(default, style))
 }
 
 /// What a line has of its own that has this size, this style and this hiding.
@@ -170,7 +170,7 @@ fn stored_line(attr: LineAttr) -> Option<LineAttr>
 
 /// What a line has then that has this of its own.
 fn styled_attr<A: Axis, C: StyleChange>(
-    plain: &DefaultStyle,
+    default: &DefaultStyle,
     range: StyleRange,
     change: &C,
     line: i32,
@@ -178,13 +178,13 @@ fn styled_attr<A: Axis, C: StyleChange>(
 ) -> Result<Option<LineAttr>, EditError>
     ensures { Returns result (Ok (attr_styled A.along range (C.made_of change.now) line (option_copied entry.entry))) }
 {
-    let style = style_made::<A, C>(plain, range, change, line, entry)?;
+    let style = style_made::<A, C>(default, range, change, line, entry)?;
     Ok(stored_line(attr_with(entry, style)))
 }
 
 /// Plans what a line gets, if it is touched.
 fn put_line<A: Axis, C: StyleChange>(
-    plain: &DefaultStyle,
+    default: &DefaultStyle,
     range: StyleRange,
     change: &C,
     lines: &AxisMap<A, LineAttr>,
@@ -197,7 +197,7 @@ fn put_line<A: Axis, C: StyleChange>(
     ensures only { IsOkUnless result NoMemory }
 {
     if touches_line::<A>(range, lines, line) {
-        let attr = styled_attr::<A, C>(plain, range, change, line, lines.get(line))?;
+        let attr = styled_attr::<A, C>(default, range, change, line, lines.get(line))?;
         let _before = planned.insert(line, attr)?;
     }
     Ok(())
@@ -206,7 +206,7 @@ fn put_line<A: Axis, C: StyleChange>(
 /// What each line of a rectangle gets, if it is touched.
 fn put_each<A: Axis, C: StyleChange>(
     alloc: Global,
-    plain: &DefaultStyle,
+    default: &DefaultStyle,
     range: StyleRange,
     change: &C,
     lines: &AxisMap<A, LineAttr>,
@@ -220,7 +220,7 @@ fn put_each<A: Axis, C: StyleChange>(
     let mut planned = AxisMap::new(alloc);
     for index in 0..count_lines::<A>(range.area) {
         let line = line_in::<A>(range.area, index);
-        put_line(plain, range, change, lines, line, &mut planned)?;
+        put_line(default, range, change, lines, line, &mut planned)?;
     }
     Ok(planned)
 }
@@ -228,7 +228,7 @@ fn put_each<A: Axis, C: StyleChange>(
 /// What each line gets that has something of its own, if it is touched.
 fn put_kept<A: Axis, C: StyleChange>(
     alloc: Global,
-    plain: &DefaultStyle,
+    default: &DefaultStyle,
     range: StyleRange,
     change: &C,
     lines: &AxisMap<A, LineAttr>,
@@ -239,7 +239,7 @@ fn put_kept<A: Axis, C: StyleChange>(
 {
     let mut planned = AxisMap::new(alloc);
     for (line, _attr) in lines.iter() {
-        put_line(plain, range, change, lines, *line, &mut planned)?;
+        put_line(default, range, change, lines, *line, &mut planned)?;
     }
     Ok(planned)
 }
@@ -258,7 +258,7 @@ fn has_fewer_lines<A: Axis>(lines: &AxisMap<A, LineAttr>, count: u32) -> bool
 pub(crate) fn styled_lines<A: Axis, C: StyleChange>(
     alloc: Global,
     lines: &AxisMap<A, LineAttr>,
-    plain: &DefaultStyle,
+    default: &DefaultStyle,
     range: StyleRange,
     change: &C,
 ) -> Result<PlannedLines<A>, EditError>
@@ -270,7 +270,7 @@ pub(crate) fn styled_lines<A: Axis, C: StyleChange>(
         return Ok(AxisMap::new(alloc));
     }
     if range.clears && has_fewer_lines(lines, count_lines::<A>(range.area)) {
-        return put_kept(alloc, plain, range, change, lines);
+        return put_kept(alloc, default, range, change, lines);
     }
-    put_each(alloc, plain, range, change, lines)
+    put_each(alloc, default, range, change, lines)
 }

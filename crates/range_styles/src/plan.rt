@@ -41,7 +41,7 @@ pub struct SheetPlan {
 pub fn style_plan<C: StyleChange>(
     alloc: Global,
     sheet: &Worksheet,
-    plain: &DefaultStyle,
+    default: &DefaultStyle,
     range: StyleRange,
     change: &C,
 ) -> Result<SheetPlan, EditError>
@@ -49,13 +49,13 @@ pub fn style_plan<C: StyleChange>(
     ensures plan { Returns result (planned_styles range (C.made_of change.now) (C.takes change.now) (C.refusal_of change.now) sheet.now) }
     ensures canonical { IfOk result (λ plan. CanonicalCellPlan plan.cells) }
 {
-    if !all_accept(sheet, plain, range, change) {
+    if !all_accept(sheet, default, range, change) {
         return Err(change.refusal());
     }
     Ok(SheetPlan {
-        cells: styled_cells(alloc, sheet, plain, range, change)?,
+        cells: styled_cells(alloc, sheet, default, range, change)?,
         links: PlaceMap::new(alloc),
-        columns: styled_lines(alloc, sheet.column_map(), plain, range, change)?,
-        rows: styled_lines(alloc, sheet.row_map(), plain, range, change)?,
+        columns: styled_lines(alloc, sheet.column_map(), default, range, change)?,
+        rows: styled_lines(alloc, sheet.row_map(), default, range, change)?,
     })
 }

@@ -29,21 +29,21 @@ pub(crate) fn has_style(own: Option<&LineAttr>) -> bool
 /// The style of a line, or the default one.
 pub(crate) fn line_style<'a>(
     own: Option<&'a LineAttr>,
-    plain: &'a DefaultStyle,
+    default: &'a DefaultStyle,
 ) -> &'a Shared<Style>
     ensures { result.now ≡ line_style (option_copied own.entry) }
 {
     match own_line_style(own) {
         Some(style) => style,
-        None => plain.shared(),
+        None => default.shared(),
     }
 }
 
 /// Whether a style is the default one.
-pub(crate) fn is_default(plain: &DefaultStyle, style: &Shared<Style>) -> bool
+pub(crate) fn is_default(default: &DefaultStyle, style: &Shared<Style>) -> bool
     ensures { result ≡ is_default style.now }
 {
-    same(style, plain.shared())
+    same(style, default.shared())
 }
 
 fn has_cell(sheet: &Worksheet, place: Position) -> bool
@@ -66,7 +66,7 @@ fn is_set(kind: AreaKind, sheet: &Worksheet, place: Position) -> bool
     }
 }
 
-fn is_cleared(kind: AreaKind, sheet: &Worksheet, plain: &DefaultStyle, place: Position) -> bool
+fn is_cleared(kind: AreaKind, sheet: &Worksheet, default: &DefaultStyle, place: Position) -> bool
     ensures { result ≡ is_cleared kind sheet.now place }
 {
     match kind {
@@ -75,7 +75,7 @@ fn is_cleared(kind: AreaKind, sheet: &Worksheet, plain: &DefaultStyle, place: Po
         }
         AreaKind::FullRows => has_cell(sheet, place),
         AreaKind::OtherPlaces => {
-            has_cell(sheet, place) || !is_default(plain, sheet.shown_style_at(place, plain))
+            has_cell(sheet, place) || !is_default(default, sheet.shown_style_at(place, default))
         }
     }
 }
@@ -84,14 +84,14 @@ fn is_cleared(kind: AreaKind, sheet: &Worksheet, plain: &DefaultStyle, place: Po
 pub(crate) fn touches(
     range: StyleRange,
     sheet: &Worksheet,
-    plain: &DefaultStyle,
+    default: &DefaultStyle,
     place: Position,
 ) -> bool
     ensures { result ≡ touches range sheet.now place }
 {
     range.area.holds(place)
         && (if range.clears {
-            is_cleared(range.kind, sheet, plain, place)
+            is_cleared(range.kind, sheet, default, place)
         } else {
             is_set(range.kind, sheet, place)
         })

@@ -1,7 +1,7 @@
 -- Nothing is asked of the items of a list.
 use Rattle.std.proofs.Common.{List, [], ◌∷◌}
 use Rattle.std.specs.List.{AllByRecursion}
-use Rattle.base_wire.specs.Spelling.{Any}
+use Rattle.base_wire.specs.Encoding.{Any}
 
 pub any_items : {A : Type 0} (xs : List A) → AllByRecursion Any xs
 any_items [] = tt

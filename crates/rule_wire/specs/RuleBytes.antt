@@ -10,11 +10,11 @@ use Rattle.format_rules.specs.declared.CfOperator.{CfOperator}
 use Rattle.format_rules.specs.declared.CfOperator.TheVariants.{Equal, NotEqual, Less, LessOrEqual, Greater, GreaterOrEqual, Between, NotBetween}
 use Rattle.format_rules.specs.declared.CfRule.{CfRule}
 use Rattle.format_rules.specs.declared.CfRule.TheVariants.{Formula, CellIs, ColorScale, DataBar, IconSet, IconRating}
-use Rattle.base_wire.specs.Spelling.{spell_code, boolean_code, spell_option, FitsItems}
-use Rattle.formula_wire.specs.NodeBytes.{spell_node}
+use Rattle.base_wire.specs.Encoding.{encode_code, boolean_code, encode_option, FitsItems}
+use Rattle.formula_wire.specs.NodeBytes.{encode_node}
 use Rattle.formula_wire.specs.Carried.{FitsNode, IsKnownNode}
-use Rattle.cell_wire.specs.StyleBytes.{spell_color, FitsColor, spell_style, FitsStyle}
-use Rattle.rule_wire.specs.ThresholdBytes.{spell_cfvo, FitsCfvo, IsKnownCfvo, spell_colors, FitsColorThreshold, IsKnownColorThreshold, spell_icons, FitsIconThreshold, IsKnownIconThreshold}
+use Rattle.cell_wire.specs.StyleBytes.{encode_color, FitsColor, encode_style, FitsStyle}
+use Rattle.rule_wire.specs.ThresholdBytes.{encode_cfvo, FitsCfvo, IsKnownCfvo, encode_colors, FitsColorThreshold, IsKnownColorThreshold, encode_icons, FitsIconThreshold, IsKnownIconThreshold}
 
 -- ---- operators
 
@@ -32,38 +32,38 @@ operator_code NotBetween = 7
 -- ---- what the kinds hold
 
 -- a formula, a style, and whether the rule stops others
-abbrev pub spell_formula : Node → Style → Bool → List ℕ
-spell_formula formula style stop = spell_node formula ++ (spell_style style ++ spell_code boolean_code stop)
+abbrev pub encode_formula : Node → Style → Bool → List ℕ
+encode_formula formula style stop = encode_node formula ++ (encode_style style ++ encode_code boolean_code stop)
 
 -- an operator, one formula or two, a style, and whether the rule stops others
-abbrev pub spell_cell_is : CfOperator → Node → Option Node → Style → Bool → List ℕ
-spell_cell_is operator formula formula2 style stop =
-    spell_code operator_code operator ++ (spell_node formula ++ (spell_option spell_node formula2 ++ (spell_style style ++ spell_code boolean_code stop)))
+abbrev pub encode_cell_is : CfOperator → Node → Option Node → Style → Bool → List ℕ
+encode_cell_is operator formula formula2 style stop =
+    encode_code operator_code operator ++ (encode_node formula ++ (encode_option encode_node formula2 ++ (encode_style style ++ encode_code boolean_code stop)))
 
 -- the ends of a bar, its two colours, whether it fades, and whether the value is shown
-abbrev pub spell_data_bar : Option Cfvo → Option Cfvo → Color → Color → Bool → Bool → List ℕ
-spell_data_bar min max positive negative gradient show =
-    spell_option spell_cfvo min ++ (spell_option spell_cfvo max ++ (spell_color positive ++ (spell_color negative
-    ++ (spell_code boolean_code gradient ++ spell_code boolean_code show))))
+abbrev pub encode_data_bar : Option Cfvo → Option Cfvo → Color → Color → Bool → Bool → List ℕ
+encode_data_bar min max positive negative gradient show =
+    encode_option encode_cfvo min ++ (encode_option encode_cfvo max ++ (encode_color positive ++ (encode_color negative
+    ++ (encode_code boolean_code gradient ++ encode_code boolean_code show))))
 
 -- the number of the set, its thresholds, and whether the value is shown
-abbrev pub spell_icon_set : ℕ → List IconThreshold → Bool → List ℕ
-spell_icon_set icons thresholds show = (icons ∷ []) ++ (spell_icons thresholds ++ spell_code boolean_code show)
+abbrev pub encode_icon_set : ℕ → List IconThreshold → Bool → List ℕ
+encode_icon_set icons thresholds show = (icons ∷ []) ++ (encode_icons thresholds ++ encode_code boolean_code show)
 
 -- the number of the icon, its colour, its thresholds, and whether the value is shown
-abbrev pub spell_icon_rating : ℕ → Color → List IconThreshold → Bool → List ℕ
-spell_icon_rating icon color thresholds show = (icon ∷ []) ++ (spell_color color ++ (spell_icons thresholds ++ spell_code boolean_code show))
+abbrev pub encode_icon_rating : ℕ → Color → List IconThreshold → Bool → List ℕ
+encode_icon_rating icon color thresholds show = (icon ∷ []) ++ (encode_color color ++ (encode_icons thresholds ++ encode_code boolean_code show))
 
 -- ---- rules
 
 -- the kind, and then what it holds
-abbrev pub spell_rule : CfRule → List ℕ
-spell_rule (Formula formula style stop) = 0 ∷ spell_formula formula style stop
-spell_rule (CellIs operator formula formula2 style stop) = 1 ∷ spell_cell_is operator formula formula2 style stop
-spell_rule (ColorScale thresholds) = 2 ∷ spell_colors thresholds
-spell_rule (DataBar min max positive negative gradient show) = 3 ∷ spell_data_bar min max positive negative gradient show
-spell_rule (IconSet icons thresholds show) = 4 ∷ spell_icon_set icons thresholds show
-spell_rule (IconRating icon color thresholds show) = 5 ∷ spell_icon_rating icon color thresholds show
+abbrev pub encode_rule : CfRule → List ℕ
+encode_rule (Formula formula style stop) = 0 ∷ encode_formula formula style stop
+encode_rule (CellIs operator formula formula2 style stop) = 1 ∷ encode_cell_is operator formula formula2 style stop
+encode_rule (ColorScale thresholds) = 2 ∷ encode_colors thresholds
+encode_rule (DataBar min max positive negative gradient show) = 3 ∷ encode_data_bar min max positive negative gradient show
+encode_rule (IconSet icons thresholds show) = 4 ∷ encode_icon_set icons thresholds show
+encode_rule (IconRating icon color thresholds show) = 5 ∷ encode_icon_rating icon color thresholds show
 
 -- ---- what bytes can carry
 

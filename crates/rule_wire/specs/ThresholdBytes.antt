@@ -5,22 +5,22 @@ use Rattle.format_rules.specs.declared.Cfvo.{Cfvo}
 use Rattle.format_rules.specs.declared.Cfvo.TheVariants.{Min, Max, Number, Percent, Percentile, Formula}
 use Rattle.format_rules.specs.declared.ColorThreshold.{ColorThreshold}
 use Rattle.format_rules.specs.declared.IconThreshold.{IconThreshold}
-use Rattle.base_wire.specs.Spelling.{spell_code, boolean_code, spell_list}
-use Rattle.base_wire.specs.Parts.{spell_decimal}
-use Rattle.formula_wire.specs.NodeBytes.{spell_node}
+use Rattle.base_wire.specs.Encoding.{encode_code, boolean_code, encode_list}
+use Rattle.base_wire.specs.Parts.{encode_decimal}
+use Rattle.formula_wire.specs.NodeBytes.{encode_node}
 use Rattle.formula_wire.specs.Carried.{FitsNode, IsKnownNode}
-use Rattle.cell_wire.specs.StyleBytes.{spell_color, FitsColor}
+use Rattle.cell_wire.specs.StyleBytes.{encode_color, FitsColor}
 
 -- ---- values
 
 -- the kind, and then the number or the formula
-abbrev pub spell_cfvo : Cfvo → List ℕ
-spell_cfvo Min = 0 ∷ []
-spell_cfvo Max = 1 ∷ []
-spell_cfvo (Number number) = 2 ∷ spell_decimal number
-spell_cfvo (Percent number) = 3 ∷ spell_decimal number
-spell_cfvo (Percentile number) = 4 ∷ spell_decimal number
-spell_cfvo (Formula tree) = 5 ∷ spell_node tree
+abbrev pub encode_cfvo : Cfvo → List ℕ
+encode_cfvo Min = 0 ∷ []
+encode_cfvo Max = 1 ∷ []
+encode_cfvo (Number number) = 2 ∷ encode_decimal number
+encode_cfvo (Percent number) = 3 ∷ encode_decimal number
+encode_cfvo (Percentile number) = 4 ∷ encode_decimal number
+encode_cfvo (Formula tree) = 5 ∷ encode_node tree
 
 -- a number is canonical, and a formula is a tree that bytes can carry
 abbrev pub FitsCfvo : Cfvo → Type 0
@@ -43,8 +43,8 @@ IsKnownCfvo (Formula tree) = IsKnownNode tree
 -- ---- thresholds of colours
 
 -- the value, and the colour
-abbrev pub spell_color_threshold : ColorThreshold → List ℕ
-spell_color_threshold threshold = spell_cfvo threshold.cfvo ++ spell_color threshold.color
+abbrev pub encode_color_threshold : ColorThreshold → List ℕ
+encode_color_threshold threshold = encode_cfvo threshold.cfvo ++ encode_color threshold.color
 
 pub record FitsColorThreshold (threshold : ColorThreshold) : Type 0 where
   pub cfvo : FitsCfvo threshold.cfvo
@@ -53,14 +53,14 @@ pub record FitsColorThreshold (threshold : ColorThreshold) : Type 0 where
 abbrev pub IsKnownColorThreshold : ColorThreshold → Type 0
 IsKnownColorThreshold threshold = IsKnownCfvo threshold.cfvo
 
-abbrev pub spell_colors : List ColorThreshold → List ℕ
-spell_colors = spell_list spell_color_threshold
+abbrev pub encode_colors : List ColorThreshold → List ℕ
+encode_colors = encode_list encode_color_threshold
 
 -- ---- thresholds of icons
 
 -- the value, and whether it has to be exceeded
-abbrev pub spell_icon_threshold : IconThreshold → List ℕ
-spell_icon_threshold threshold = spell_cfvo threshold.cfvo ++ spell_code boolean_code threshold.strict
+abbrev pub encode_icon_threshold : IconThreshold → List ℕ
+encode_icon_threshold threshold = encode_cfvo threshold.cfvo ++ encode_code boolean_code threshold.strict
 
 abbrev pub FitsIconThreshold : IconThreshold → Type 0
 FitsIconThreshold threshold = FitsCfvo threshold.cfvo
@@ -68,5 +68,5 @@ FitsIconThreshold threshold = FitsCfvo threshold.cfvo
 abbrev pub IsKnownIconThreshold : IconThreshold → Type 0
 IsKnownIconThreshold threshold = IsKnownCfvo threshold.cfvo
 
-abbrev pub spell_icons : List IconThreshold → List ℕ
-spell_icons = spell_list spell_icon_threshold
+abbrev pub encode_icons : List IconThreshold → List ℕ
+encode_icons = encode_list encode_icon_threshold

@@ -30,8 +30,8 @@ fn area_at(alloc: Global, bytes: &[u8]) -> Result<(MergedCell, &[u8]), EditError
 pub(crate) struct AreaPart;
 
 impl Part for AreaPart {
-    ghost use Rattle.base_wire.specs.Spelling.{Any};
-    ghost use Rattle.cell_wire.specs.MergeBytes.{spell_merge, FitsMerge};
+    ghost use Rattle.base_wire.specs.Encoding.{Any};
+    ghost use Rattle.cell_wire.specs.MergeBytes.{encode_merge, FitsMerge};
     ghost use Rattle.cell_wire.specs.laws.Reading.{merge_at};
     ghost use Rattle.cell_wire.specs.laws.MergeLaws.{merge_format, merge_some};
 
@@ -43,11 +43,11 @@ impl Part for AreaPart {
 
     ghost Fits = { FitsMerge };
 
-    ghost spelling = { spell_merge };
+    ghost encoding = { encode_merge };
 
     ghost reading = { merge_at };
 
-    #[tactic(auto, unfolding(cell_wire::specs::MergeBytes::spell_merge))]
+    #[tactic(auto, unfolding(cell_wire::specs::MergeBytes::encode_merge))]
     fn put(out: &mut Vec<u8>, value: &MergedCell) -> Result<(), AllocError> {
         i32::put(out, &value.row)?;
         i32::put(out, &value.column)?;

@@ -2,7 +2,7 @@
 
 ghost use Rattle.std.specs.Prelude.{◌≡◌, IfOk, IsOkUnless};
 ghost use Rattle.base_values.specs.declared.EditError.TheVariants.{NoMemory};
-ghost use Rattle.rule_wire.specs.RuleBytes.{spell_rule};
+ghost use Rattle.rule_wire.specs.RuleBytes.{encode_rule};
 
 use crate::writing::put_rule;
 use base_values::EditError;
@@ -11,7 +11,7 @@ use std::alloc::Global;
 
 /// The bytes of a rule. Refuses with `NoMemory` alone.
 pub fn encode_rule(alloc: Global, rule: &CfRule) -> Result<Vec<u8>, EditError>
-    ensures spelled { IfOk result (λ bytes. bytes.items ≡ spell_rule rule.now) }
+    ensures encoded { IfOk result (λ bytes. bytes.items ≡ encode_rule rule.now) }
     ensures only { IsOkUnless result NoMemory }
 {
     let mut out = Vec::new(alloc);

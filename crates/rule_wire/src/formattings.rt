@@ -2,7 +2,7 @@
 
 ghost use Rattle.std.specs.Prelude.{◌≡◌, ◌++◌, OnOk};
 ghost use Rattle.base_values.specs.Answers.{Answers, map_ok};
-ghost use Rattle.rule_wire.specs.FormattingBytes.{spell_areas, FitsAreas};
+ghost use Rattle.rule_wire.specs.FormattingBytes.{encode_areas, FitsAreas};
 ghost use Rattle.rule_wire.specs.laws.Reading.{formatting_at};
 
 use crate::areas::AreaPart;
@@ -37,7 +37,7 @@ fn formatting_at<'a>(
 
 #[tactic(auto, using(crate::proofs::Known::any_items))]
 fn put_areas(out: &mut Vec<u8>, areas: &[MergedCell]) -> Result<(), AllocError>
-    ensures spelled { OnOk result (out.new.items ≡ out.old.items ++ spell_areas areas.now) }
+    ensures encoded { OnOk result (out.new.items ≡ out.old.items ++ encode_areas areas.now) }
     ensures fits { OnOk result (FitsAreas areas.now) }
 {
     put_items::<AreaPart>(out, areas)
@@ -48,7 +48,7 @@ fn put_areas(out: &mut Vec<u8>, areas: &[MergedCell]) -> Result<(), AllocError>
 pub struct FormattingPart;
 
 impl Part for FormattingPart {
-    ghost use Rattle.rule_wire.specs.FormattingBytes.{spell_formatting, FitsFormatting, IsKnownFormatting};
+    ghost use Rattle.rule_wire.specs.FormattingBytes.{encode_formatting, FitsFormatting, IsKnownFormatting};
     ghost use Rattle.rule_wire.specs.laws.Reading.{formatting_at};
     ghost use Rattle.rule_wire.specs.laws.FormattingLaws.{formatting_format, formatting_some};
 
@@ -60,7 +60,7 @@ impl Part for FormattingPart {
 
     ghost Fits = { FitsFormatting };
 
-    ghost spelling = { spell_formatting };
+    ghost encoding = { encode_formatting };
 
     ghost reading = { formatting_at };
 
@@ -88,7 +88,7 @@ pub struct RuleListPart;
 
 impl Part for RuleListPart {
     ghost use Rattle.std.proofs.Common.{arith};
-    ghost use Rattle.rule_wire.specs.FormattingBytes.{spell_formattings, FitsFormattings, AreKnownFormattings};
+    ghost use Rattle.rule_wire.specs.FormattingBytes.{encode_formattings, FitsFormattings, AreKnownFormattings};
     ghost use Rattle.rule_wire.specs.laws.Reading.{formattings_at};
     ghost use Rattle.rule_wire.specs.laws.FormattingLaws.{formattings_format};
 
@@ -100,7 +100,7 @@ impl Part for RuleListPart {
 
     ghost Fits = { FitsFormattings };
 
-    ghost spelling = { spell_formattings };
+    ghost encoding = { encode_formattings };
 
     ghost reading = { formattings_at };
 

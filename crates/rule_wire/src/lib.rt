@@ -1,7 +1,7 @@
 //! Rules of conditional formatting as bytes, in both directions.
 //!
-//! The layers above see of each a spelling, which is a function of the value: a rule that bytes can
-//! carry is read again from its spelling whatever follows, what is read was spelled so, and all else is
+//! The layers above see of each a encoding, which is a function of the value: a rule that bytes can
+//! carry is read again from its encoding whatever follows, what is read was encoded so, and all else is
 //! refused with `ParseDiffs`. What bytes can carry is every rule of Rust's own types whose numbers are
 //! canonical and whose formulas are at most 64 deep.
 #![tactic(auto)]

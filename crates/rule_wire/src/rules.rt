@@ -12,7 +12,7 @@ use std::alloc::{AllocError, Global};
 pub struct RulePart;
 
 impl Part for RulePart {
-    ghost use Rattle.rule_wire.specs.RuleBytes.{spell_rule, FitsRule, IsKnownRule};
+    ghost use Rattle.rule_wire.specs.RuleBytes.{encode_rule, FitsRule, IsKnownRule};
     ghost use Rattle.rule_wire.specs.laws.Reading.{rule_at};
     ghost use Rattle.rule_wire.specs.laws.RuleLaws.{rule_format, rule_some};
 
@@ -24,7 +24,7 @@ impl Part for RulePart {
 
     ghost Fits = { FitsRule };
 
-    ghost spelling = { spell_rule };
+    ghost encoding = { encode_rule };
 
     ghost reading = { rule_at };
 

@@ -2,7 +2,7 @@
 
 ghost use Rattle.std.specs.Prelude.{◌≡◌, ◌++◌, OnOk};
 ghost use Rattle.base_values.specs.Answers.{Answers, map_ok};
-ghost use Rattle.rule_wire.specs.ThresholdBytes.{spell_cfvo, FitsCfvo, IsKnownCfvo};
+ghost use Rattle.rule_wire.specs.ThresholdBytes.{encode_cfvo, FitsCfvo, IsKnownCfvo};
 ghost use Rattle.rule_wire.specs.laws.Reading.{cfvo_at, color_threshold_at, icon_threshold_at};
 
 use crate::steps::read;
@@ -16,7 +16,7 @@ use formula_wire::NodePart;
 use std::alloc::{AllocError, Global};
 
 fn put_cfvo(out: &mut Vec<u8>, cfvo: &Cfvo) -> Result<(), AllocError>
-    ensures spelled { OnOk result (out.new.items ≡ out.old.items ++ spell_cfvo cfvo.now) }
+    ensures encoded { OnOk result (out.new.items ≡ out.old.items ++ encode_cfvo cfvo.now) }
     ensures fits { OnOk result (IsKnownCfvo cfvo.now → FitsCfvo cfvo.now) }
 {
     match cfvo {
@@ -92,7 +92,7 @@ fn icon_threshold_at(alloc: Global, bytes: &[u8]) -> Result<(IconThreshold, &[u8
 pub(crate) struct CfvoPart;
 
 impl Part for CfvoPart {
-    ghost use Rattle.rule_wire.specs.ThresholdBytes.{spell_cfvo, FitsCfvo, IsKnownCfvo};
+    ghost use Rattle.rule_wire.specs.ThresholdBytes.{encode_cfvo, FitsCfvo, IsKnownCfvo};
     ghost use Rattle.rule_wire.specs.laws.Reading.{cfvo_at};
     ghost use Rattle.rule_wire.specs.laws.ThresholdLaws.{cfvo_format, cfvo_some};
 
@@ -104,7 +104,7 @@ impl Part for CfvoPart {
 
     ghost Fits = { FitsCfvo };
 
-    ghost spelling = { spell_cfvo };
+    ghost encoding = { encode_cfvo };
 
     ghost reading = { cfvo_at };
 
@@ -129,7 +129,7 @@ impl Part for CfvoPart {
 pub(crate) struct ColorThresholdPart;
 
 impl Part for ColorThresholdPart {
-    ghost use Rattle.rule_wire.specs.ThresholdBytes.{spell_color_threshold, FitsColorThreshold, IsKnownColorThreshold};
+    ghost use Rattle.rule_wire.specs.ThresholdBytes.{encode_color_threshold, FitsColorThreshold, IsKnownColorThreshold};
     ghost use Rattle.rule_wire.specs.laws.Reading.{color_threshold_at};
     ghost use Rattle.rule_wire.specs.laws.ThresholdLaws.{color_threshold_format, color_threshold_some};
 
@@ -141,7 +141,7 @@ impl Part for ColorThresholdPart {
 
     ghost Fits = { FitsColorThreshold };
 
-    ghost spelling = { spell_color_threshold };
+    ghost encoding = { encode_color_threshold };
 
     ghost reading = { color_threshold_at };
 
@@ -167,7 +167,7 @@ impl Part for ColorThresholdPart {
 pub(crate) struct IconThresholdPart;
 
 impl Part for IconThresholdPart {
-    ghost use Rattle.rule_wire.specs.ThresholdBytes.{spell_icon_threshold, FitsIconThreshold, IsKnownIconThreshold};
+    ghost use Rattle.rule_wire.specs.ThresholdBytes.{encode_icon_threshold, FitsIconThreshold, IsKnownIconThreshold};
     ghost use Rattle.rule_wire.specs.laws.Reading.{icon_threshold_at};
     ghost use Rattle.rule_wire.specs.laws.ThresholdLaws.{icon_threshold_format, icon_threshold_some};
 
@@ -179,7 +179,7 @@ impl Part for IconThresholdPart {
 
     ghost Fits = { FitsIconThreshold };
 
-    ghost spelling = { spell_icon_threshold };
+    ghost encoding = { encode_icon_threshold };
 
     ghost reading = { icon_threshold_at };
 

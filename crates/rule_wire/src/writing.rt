@@ -5,7 +5,7 @@ ghost use Rattle.std.specs.Prelude.{◌≡◌, ◌++◌, IfSome, OnOk};
 ghost use Rattle.std.specs.List.{AllByRecursion};
 ghost use Rattle.formula_wire.specs.Carried.{IsKnownNode};
 ghost use Rattle.rule_wire.specs.ThresholdBytes.{IsKnownCfvo, IsKnownIconThreshold};
-ghost use Rattle.rule_wire.specs.RuleBytes.{spell_cell_is, spell_data_bar, spell_formula, spell_icon_rating, spell_icon_set, spell_rule, FitsCellIs, FitsDataBar, FitsFormula, FitsIconRating, FitsIconSet, FitsRule, IsKnownRule};
+ghost use Rattle.rule_wire.specs.RuleBytes.{encode_cell_is, encode_data_bar, encode_formula, encode_icon_rating, encode_icon_set, encode_rule, FitsCellIs, FitsDataBar, FitsFormula, FitsIconRating, FitsIconSet, FitsRule, IsKnownRule};
 
 use crate::codes::operator_code;
 use crate::thresholds::{CfvoPart, ColorThresholdPart, IconThresholdPart};
@@ -24,7 +24,7 @@ fn put_formula(
     style: &Shared<Style>,
     stop_if_true: bool,
 ) -> Result<(), AllocError>
-    ensures spelled { OnOk result (out.new.items ≡ out.old.items ++ spell_formula formula.now style.now stop_if_true) }
+    ensures encoded { OnOk result (out.new.items ≡ out.old.items ++ encode_formula formula.now style.now stop_if_true) }
     ensures fits { OnOk result (IsKnownNode formula.now → FitsFormula formula.now style.now) }
 {
     Shared::<NodePart>::put(out, formula)?;
@@ -40,7 +40,7 @@ fn put_cell_is(
     style: &Shared<Style>,
     stop_if_true: bool,
 ) -> Result<(), AllocError>
-    ensures spelled { OnOk result (out.new.items ≡ out.old.items ++ spell_cell_is operator formula.now formula2.now style.now stop_if_true) }
+    ensures encoded { OnOk result (out.new.items ≡ out.old.items ++ encode_cell_is operator formula.now formula2.now style.now stop_if_true) }
     ensures fits { OnOk result (IsKnownNode formula.now → IfSome formula2.now IsKnownNode → FitsCellIs formula.now formula2.now style.now) }
 {
     out.push(operator_code(operator))?;
@@ -58,7 +58,7 @@ fn put_data_bar(
     is_gradient: bool,
     show_value: bool,
 ) -> Result<(), AllocError>
-    ensures spelled { OnOk result (out.new.items ≡ out.old.items ++ spell_data_bar ends.entry.0.now ends.entry.1.now colors.0 colors.1 is_gradient show_value) }
+    ensures encoded { OnOk result (out.new.items ≡ out.old.items ++ encode_data_bar ends.entry.0.now ends.entry.1.now colors.0 colors.1 is_gradient show_value) }
     ensures fits { OnOk result (IfSome ends.entry.0.now IsKnownCfvo → IfSome ends.entry.1.now IsKnownCfvo → FitsDataBar ends.entry.0.now ends.entry.1.now colors.0 colors.1) }
 {
     let (min, max) = ends;
@@ -76,7 +76,7 @@ fn put_icon_set(
     thresholds: &[IconThreshold],
     show_value: bool,
 ) -> Result<(), AllocError>
-    ensures spelled { OnOk result (out.new.items ≡ out.old.items ++ spell_icon_set icons thresholds.now show_value) }
+    ensures encoded { OnOk result (out.new.items ≡ out.old.items ++ encode_icon_set icons thresholds.now show_value) }
     ensures fits { OnOk result (AllByRecursion IsKnownIconThreshold thresholds.now → FitsIconSet icons thresholds.now) }
 {
     u8::put(out, &icons)?;
@@ -91,7 +91,7 @@ fn put_icon_rating(
     thresholds: &[IconThreshold],
     show_value: bool,
 ) -> Result<(), AllocError>
-    ensures spelled { OnOk result (out.new.items ≡ out.old.items ++ spell_icon_rating icon color thresholds.now show_value) }
+    ensures encoded { OnOk result (out.new.items ≡ out.old.items ++ encode_icon_rating icon color thresholds.now show_value) }
     ensures fits { OnOk result (AllByRecursion IsKnownIconThreshold thresholds.now → FitsIconRating icon color thresholds.now) }
 {
     u8::put(out, &icon)?;
@@ -101,7 +101,7 @@ fn put_icon_rating(
 }
 
 pub(crate) fn put_rule(out: &mut Vec<u8>, rule: &CfRule) -> Result<(), AllocError>
-    ensures spelled { OnOk result (out.new.items ≡ out.old.items ++ spell_rule rule.now) }
+    ensures encoded { OnOk result (out.new.items ≡ out.old.items ++ encode_rule rule.now) }
     ensures fits { OnOk result (IsKnownRule rule.now → FitsRule rule.now) }
 {
     match rule {

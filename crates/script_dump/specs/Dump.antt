@@ -29,9 +29,9 @@ use Rattle.cell_content.specs.declared.Content.{Content}
 use Rattle.cell_content.specs.declared.Content.TheVariants.{Empty, Formula, Dynamic, Array}
 use Rattle.sheet_grid.specs.declared.SheetState.{SheetState}
 use Rattle.sheet_grid.specs.declared.SheetState.TheVariants.{Visible, Hidden, VeryHidden}
-use Rattle.cell_wire.specs.StyleBytes.{spell_style}
+use Rattle.cell_wire.specs.StyleBytes.{encode_style}
 use Rattle.format_rules.specs.declared.ConditionalFormatting.{ConditionalFormatting}
-use Rattle.rule_wire.specs.RuleBytes.{spell_rule}
+use Rattle.rule_wire.specs.RuleBytes.{encode_rule}
 use Rattle.script_lines.specs.Escapes.{escaped}
 use Rattle.script_lines.specs.References.{reference_text}
 use Rattle.cell_input.specs.Inputs.{input_text}
@@ -60,7 +60,7 @@ same_style = style_eq.ghosts.eq
 
 -- the bytes of a style, and a dash for the default
 abbrev pub style_text : Style → List ℕ
-style_text style = if same_style style default_style then codes "-" else hex (spell_style style)
+style_text style = if same_style style default_style then codes "-" else hex (encode_style style)
 
 -- a size, and a dash where there is no own one
 abbrev pub size_text : Option ℤ → List ℕ
@@ -70,7 +70,7 @@ size_text (Some size) = signed_decimal size
 -- the bytes of a row's or a column's style, also where it is the default, and a dash where there is none
 abbrev pub own_style_text : Option Style → List ℕ
 own_style_text None = codes "-"
-own_style_text (Some style) = hex (spell_style style)
+own_style_text (Some style) = hex (encode_style style)
 
 -- the sides of an array: how many columns wide it is, an x, and how many rows high
 abbrev pub sides_text : ℤ → ℤ → List ℕ
@@ -170,7 +170,7 @@ link_line (place, link) = line (words (codes "link" ∷ reference_text place ∷
 
 -- a conditional rule: its priority, its parts in their order, and the bytes of what it shows and where
 abbrev pub rule_line : ConditionalFormatting → List ℕ
-rule_line formatting = line (words (codes "rule" ∷ decimal formatting.priority ∷ areas_text formatting.parts ∷ hex (spell_rule formatting.rule) ∷ []))
+rule_line formatting = line (words (codes "rule" ∷ decimal formatting.priority ∷ areas_text formatting.parts ∷ hex (encode_rule formatting.rule) ∷ []))
 
 -- a sheet, then its rows, its columns, its merges in their order, its cells by row and column, its links, and its conditional rules in their
 -- order

@@ -5,7 +5,7 @@ ghost use Rattle.std.specs.List.{flat_map};
 ghost use Rattle.base_values.specs.Places.{IsPlace};
 ghost use Rattle.base_values.specs.declared.error.EditError.TheVariants.{NoMemory};
 ghost use Rattle.base_styles.specs.DefaultStyle.{default_style};
-ghost use Rattle.cell_wire.specs.StyleBytes.{spell_style};
+ghost use Rattle.cell_wire.specs.StyleBytes.{encode_style};
 ghost use Rattle.script_lines.specs.Escapes.{escaped};
 ghost use Rattle.script_dump.specs.Text.{hex};
 ghost use Rattle.script_dump.specs.Dump.{flag_text, state_text, color_text, same_style, sides_text, style_text, content_word, content_text, book_line, sheet_line, sheet_lines, head_lines, dump};
@@ -69,7 +69,7 @@ pub(crate) fn push_style_bytes(
     out: &mut Vec<u8>,
     style: &Style,
 ) -> Result<(), EditError>
-    ensures text { OnOk result (out.new.items ≡ out.old.items ++ hex (spell_style style.now)) }
+    ensures text { OnOk result (out.new.items ≡ out.old.items ++ hex (encode_style style.now)) }
     ensures memory { IsOkUnless result NoMemory }
 {
     let bytes = encode_style(alloc, style)?;

@@ -3,7 +3,7 @@
 ghost use Rattle.std.specs.Prelude.{◌≡◌, ◌++◌, ◌∷◌, [], codes, decimal, OnOk, IsOkUnless};
 ghost use Rattle.std.specs.List.{flat_map};
 ghost use Rattle.base_values.specs.declared.error.EditError.TheVariants.{NoMemory};
-ghost use Rattle.rule_wire.specs.RuleBytes.{spell_rule};
+ghost use Rattle.rule_wire.specs.RuleBytes.{encode_rule};
 ghost use Rattle.script_dump.specs.Text.{hex};
 ghost use Rattle.script_dump.specs.Dump.{areas_text, later_area, rule_line};
 
@@ -70,7 +70,7 @@ fn push_rule_front(
 
 /// Writes the bytes of a rule in hexadecimal.
 fn push_rule_bytes(alloc: Global, out: &mut Vec<u8>, rule: &CfRule) -> Result<(), EditError>
-    ensures text { OnOk result (out.new.items ≡ out.old.items ++ hex (spell_rule rule.now)) }
+    ensures text { OnOk result (out.new.items ≡ out.old.items ++ hex (encode_rule rule.now)) }
     ensures memory { IsOkUnless result NoMemory }
 {
     let bytes = encode_rule(alloc, rule)?;

@@ -15,7 +15,7 @@ fn pair(digits: &[u8]) -> Option<u8> {
     }
 }
 
-/// The bytes that pairs of hexadecimal digits spell, if they do.
+/// The bytes that pairs of hexadecimal digits encode, if they do.
 pub(crate) fn bytes_of(alloc: Global, hex: &str) -> Result<Option<Vec<u8>>, AllocError> {
     let mut bytes = Vec::new(alloc);
     for digits in hex.as_bytes().chunks(2) {

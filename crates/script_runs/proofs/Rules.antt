@@ -20,7 +20,7 @@ use Rattle.open_book.specs.Document.{Document}
 use Rattle.open_book.specs.Machine.{State, edited}
 use Rattle.user_model.specs.Places.{rule_goes}
 use Rattle.user_model.specs.Reading.{formula_at, formula_typed}
-use Rattle.open_book.specs.Stands.{StandsFor, Turns}
+use Rattle.open_book.specs.Stands.{StandsFor, MovesOrNoMemory}
 use Rattle.user_model.specs.Typing.{rule_formula}
 use Rattle.script_runs.specs.Script.{plain_rule, rule_asked, rule_typed}
 
@@ -76,7 +76,7 @@ module _ {A B : Type 0} (f : A → B) (error : EditError) where
 
 -- a text that is not read where the place is missing
 pub unread_turns : (named : NamedArea) (text : List ℕ) (doc : Document) (s : State) (error : EditError) → StandsFor doc s
-    → (error ≢ NoMemory → rule_formula named.sheet named.area text doc.book doc.language ≡ Err error) → Turns {T = Unit {0}} (Err error) doc (rule_typed named text s)
+    → (error ≢ NoMemory → rule_formula named.sheet named.area text doc.book doc.language ≡ Err error) → MovesOrNoMemory {T = Unit {0}} (Err error) doc (rule_typed named text s)
 unread_turns named text doc s error stands unread = record {
   done = tt;
   refused = λ other.
@@ -88,7 +88,7 @@ unread_turns named text doc s error stands unread = record {
 }
 
 -- out of memory
-pub short_turns : (error : EditError) (doc : Document) (expected : Result State EditError) → error ≡ NoMemory → Turns {T = Unit {0}} (Err error) doc expected
+pub short_turns : (error : EditError) (doc : Document) (expected : Result State EditError) → error ≡ NoMemory → MovesOrNoMemory {T = Unit {0}} (Err error) doc expected
 short_turns error doc expected short = record { done = tt; refused = λ other. absurd (other short) }
 
 -- the rule that was made of what was read is the one that is asked for

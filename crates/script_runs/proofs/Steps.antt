@@ -17,7 +17,7 @@ use Rattle.sheet_history.specs.declared.Setting.TheVariants as setting
 use Rattle.edit_plans.specs.Edits.Edit.{SetSetting}
 use Rattle.user_model.specs.Settings.{language_named, language_set, locale_given, locale_named, locale_set, zone_given, zone_named, zone_set}
 use Rattle.open_book.specs.Document.{Document}
-use Rattle.open_book.specs.Stands.{StandsFor, Moves, Turns}
+use Rattle.open_book.specs.Stands.{StandsFor, Moves, MovesOrNoMemory}
 use Rattle.open_book.specs.Values.{Session as Opened}
 use Rattle.script_runs.specs.Script.{outcome, reply_text, state_after}
 use Rattle.script_runs.specs.Session.{SessionStands, Runs}
@@ -81,11 +81,11 @@ redo_keeps s = steps s.undone
     steps [] = stale s.stale_redo
     steps (step ∷ undone) = refl
 
-pub moves_turn : {T : Type 0} (result : Result T EditError) (new : Document) (expected : Result State EditError) → Moves result new expected → Turns result new expected
+pub moves_turn : {T : Type 0} (result : Result T EditError) (new : Document) (expected : Result State EditError) → Moves result new expected → MovesOrNoMemory result new expected
 moves_turn result new expected moves = record { done = moves.done; refused = moves.refused }
 
 -- the model after a step that was answered
-answered : (done : Result (Unit {0}) EditError) (old new : Opened) (s : State) (expected : Result State EditError) → StandsFor old.document s → Turns done new.document expected
+answered : (done : Result (Unit {0}) EditError) (old new : Opened) (s : State) (expected : Result State EditError) → StandsFor old.document s → MovesOrNoMemory done new.document expected
     → OnErr done (new ≡ old) → IfErr done (λ error. error ≢ NoMemory) → (outcome done ≡ outcome expected) × StandsFor new.document (state_after expected s)
 answered (Ok u) old new s (Ok next) stands turns err memory = (refl, turns.done)
 answered (Ok u) old new s (Err error) stands turns err memory = absurd turns.done
@@ -95,7 +95,7 @@ answered (Err error) old new s expected stands turns err memory =
 
 -- a command that made a step and wrote its outcome ran
 pub step_runs : (result done : Result (Unit {0}) EditError) (old new : Session) (s : State) (expected : Result State EditError) → KeepsSync expected s → SessionStands old s
-    → Turns done new.model.document expected → OnErr done (new.model ≡ old.model) → new.copy ≡ old.copy
+    → MovesOrNoMemory done new.model.document expected → OnErr done (new.model ≡ old.model) → new.copy ≡ old.copy
     → OnOk result (new.out.items ≡ old.out.items ++ reply_text (outcome done)) → OnOk result (IfErr done (λ error. error ≢ NoMemory)) → IsOkUnless result NoMemory
     → Runs result old new (reply_text (outcome expected)) (state_after expected s) (Unit {0})
 step_runs (Ok u) done old new s expected keeps stands turns err copy out memory only =

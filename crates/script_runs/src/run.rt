@@ -31,7 +31,7 @@ pub fn run_script<S: Source, K: Sink>(
     // In every state that the commands of the lines go through, those that are drawn among them, undo and
     // redo lead to the kept workbooks, no command is refused as a diff is, and the bytes of what was sent
     // since the last sync carry the workbook at that sync to the present one. What a sync sends is a
-    // queue that bytes can spell, so decoding them gives it again.
+    // queue that bytes can encode, so decoding them gives it again.
     ensures sound { OnOk result (IfSome (S.left input.old) (λ script. SoundThrough (commands_of (lines_of script)) start)) }
 
     ensures read_fault { result ≡ Err RunError.ReadFault → Rose (S.faults input.old) (S.faults input.new) }

@@ -6,7 +6,7 @@ ghost use Rattle.format_rules.specs.Canonical.{has_canonical_numbers};
 ghost use Rattle.script_runs.specs.Script.{refusal, outcome, plain_rule, reply_text, rule_typed, value_reply, start};
 ghost use Rattle.script_runs.specs.Script.Reply.{Sent, Value};
 ghost use Rattle.user_model.specs.Reading.{rectangle_of};
-ghost use Rattle.open_book.specs.Stands.{OnStates, StandsFor, Turns};
+ghost use Rattle.open_book.specs.Stands.{OnStates, StandsFor, MovesOrNoMemory};
 
 use crate::tally::{Tally, byte_at, push_made};
 use base_axis::Area;
@@ -142,7 +142,7 @@ fn add_rule(
     named: NamedArea,
     text: &str,
 ) -> Result<(), EditError>
-    ensures next { OnStates model.old.document (λ state. Turns result model.new.document (rule_typed named text.now state)) }
+    ensures next { OnStates model.old.document (λ state. MovesOrNoMemory result model.new.document (rule_typed named text.now state)) }
     ensures err { OnErr result (model.new ≡ model.old) }
 {
     let formula = model.read_rule_formula(named.sheet, named.area, text)?;

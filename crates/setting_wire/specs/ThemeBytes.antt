@@ -6,8 +6,8 @@ use Rattle.base_styles.specs.declared.Theme.{Theme}
 -- ---- the parts of a colour
 
 -- red, green and blue, a byte each
-abbrev pub spell_rgb : RgbColor → List ℕ
-spell_rgb color = color.red ∷ color.green ∷ color.blue ∷ []
+abbrev pub encode_rgb : RgbColor → List ℕ
+encode_rgb color = color.red ∷ color.green ∷ color.blue ∷ []
 
 -- its parts are bytes
 pub record FitsRgb (color : RgbColor) : Type 0 where
@@ -18,11 +18,11 @@ pub record FitsRgb (color : RgbColor) : Type 0 where
 -- ---- themes
 
 -- its colours in their order
-unfoldable pub spell_theme : Theme → List ℕ
-spell_theme theme =
-    spell_rgb theme.light1 ++ (spell_rgb theme.dark1 ++ (spell_rgb theme.light2 ++ (spell_rgb theme.dark2
-    ++ (spell_rgb theme.accent1 ++ (spell_rgb theme.accent2 ++ (spell_rgb theme.accent3 ++ (spell_rgb theme.accent4
-    ++ (spell_rgb theme.accent5 ++ (spell_rgb theme.accent6 ++ (spell_rgb theme.hyperlink ++ (spell_rgb theme.followed_hyperlink)))))))))))
+unfoldable pub encode_theme : Theme → List ℕ
+encode_theme theme =
+    encode_rgb theme.light1 ++ (encode_rgb theme.dark1 ++ (encode_rgb theme.light2 ++ (encode_rgb theme.dark2
+    ++ (encode_rgb theme.accent1 ++ (encode_rgb theme.accent2 ++ (encode_rgb theme.accent3 ++ (encode_rgb theme.accent4
+    ++ (encode_rgb theme.accent5 ++ (encode_rgb theme.accent6 ++ (encode_rgb theme.hyperlink ++ (encode_rgb theme.followed_hyperlink)))))))))))
 
 -- the parts of its colours are bytes
 pub record FitsTheme (theme : Theme) : Type 0 where

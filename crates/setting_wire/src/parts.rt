@@ -13,8 +13,8 @@ pub(crate) struct RgbPart;
 
 impl Part for RgbPart {
     ghost use Rattle.std.proofs.Common.{arith};
-    ghost use Rattle.base_wire.specs.Spelling.{Any};
-    ghost use Rattle.setting_wire.specs.ThemeBytes.{spell_rgb, FitsRgb};
+    ghost use Rattle.base_wire.specs.Encoding.{Any};
+    ghost use Rattle.setting_wire.specs.ThemeBytes.{encode_rgb, FitsRgb};
     ghost use Rattle.setting_wire.specs.laws.Reading.{rgb_at};
     ghost use Rattle.setting_wire.specs.laws.Formats.{rgb_format};
 
@@ -26,7 +26,7 @@ impl Part for RgbPart {
 
     ghost Fits = { FitsRgb };
 
-    ghost spelling = { spell_rgb };
+    ghost encoding = { encode_rgb };
 
     ghost reading = { rgb_at };
 
@@ -51,8 +51,8 @@ impl Part for RgbPart {
 pub struct ThemePart;
 
 impl Part for ThemePart {
-    ghost use Rattle.base_wire.specs.Spelling.{Any};
-    ghost use Rattle.setting_wire.specs.ThemeBytes.{spell_theme, FitsTheme};
+    ghost use Rattle.base_wire.specs.Encoding.{Any};
+    ghost use Rattle.setting_wire.specs.ThemeBytes.{encode_theme, FitsTheme};
     ghost use Rattle.setting_wire.specs.laws.Reading.{theme_at};
     ghost use Rattle.setting_wire.specs.laws.Formats.{theme_format, theme_some};
 
@@ -64,7 +64,7 @@ impl Part for ThemePart {
 
     ghost Fits = { FitsTheme };
 
-    ghost spelling = { spell_theme };
+    ghost encoding = { encode_theme };
 
     ghost reading = { theme_at };
 
@@ -90,8 +90,8 @@ pub struct LocalePart;
 
 impl Part for LocalePart {
     ghost use Rattle.std.proofs.Common.{arith};
-    ghost use Rattle.base_wire.specs.Spelling.{Any};
-    ghost use Rattle.setting_wire.specs.TableBytes.{spell_locale};
+    ghost use Rattle.base_wire.specs.Encoding.{Any};
+    ghost use Rattle.setting_wire.specs.TableBytes.{encode_locale};
     ghost use Rattle.setting_wire.specs.laws.Reading.{locale_at};
     ghost use Rattle.setting_wire.specs.laws.Formats.{locale_format};
 
@@ -103,7 +103,7 @@ impl Part for LocalePart {
 
     ghost Fits = { Any };
 
-    ghost spelling = { spell_locale };
+    ghost encoding = { encode_locale };
 
     ghost reading = { locale_at };
 
@@ -130,8 +130,8 @@ pub struct ZonePart;
 
 impl Part for ZonePart {
     ghost use Rattle.std.proofs.Common.{arith};
-    ghost use Rattle.base_wire.specs.Spelling.{Any};
-    ghost use Rattle.setting_wire.specs.TableBytes.{spell_zone};
+    ghost use Rattle.base_wire.specs.Encoding.{Any};
+    ghost use Rattle.setting_wire.specs.TableBytes.{encode_zone};
     ghost use Rattle.setting_wire.specs.laws.Reading.{zone_at};
     ghost use Rattle.setting_wire.specs.laws.Formats.{zone_format};
 
@@ -143,7 +143,7 @@ impl Part for ZonePart {
 
     ghost Fits = { Any };
 
-    ghost spelling = { spell_zone };
+    ghost encoding = { encode_zone };
 
     ghost reading = { zone_at };
 

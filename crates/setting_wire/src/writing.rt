@@ -1,23 +1,23 @@
 //! Themes as bytes.
 
 ghost use Rattle.std.specs.Prelude.{◌≡◌, ◌++◌, OnOk};
-ghost use Rattle.setting_wire.specs.ThemeBytes.{spell_rgb, spell_theme, FitsRgb, FitsTheme};
+ghost use Rattle.setting_wire.specs.ThemeBytes.{encode_rgb, encode_theme, FitsRgb, FitsTheme};
 
 use base_styles::{RgbColor, Theme};
 use std::alloc::AllocError;
 
 /// Adds the red, green and blue parts of a colour.
 pub(crate) fn put_rgb(out: &mut Vec<u8>, color: RgbColor) -> Result<(), AllocError>
-    ensures spelled { OnOk result (out.new.items ≡ out.old.items ++ spell_rgb color) }
+    ensures encoded { OnOk result (out.new.items ≡ out.old.items ++ encode_rgb color) }
     ensures fits { OnOk result (FitsRgb color) }
 {
     out.extend_from_slice(&[color.red, color.green, color.blue])
 }
 
 /// Adds the colours of a theme in their order.
-#[tactic(auto, unfolding(crate::specs::ThemeBytes::spell_theme))]
+#[tactic(auto, unfolding(crate::specs::ThemeBytes::encode_theme))]
 pub(crate) fn put_theme(out: &mut Vec<u8>, theme: &Theme) -> Result<(), AllocError>
-    ensures spelled { OnOk result (out.new.items ≡ out.old.items ++ spell_theme theme.now) }
+    ensures encoded { OnOk result (out.new.items ≡ out.old.items ++ encode_theme theme.now) }
     ensures fits { OnOk result (FitsTheme theme.now) }
 {
     put_rgb(out, theme.light1)?;

@@ -1,7 +1,7 @@
 ghost use Rattle.std.specs.Prelude.{◌≡◌, ℕ, true, IfSome};
 ghost use Rattle.base_values.specs.declared.Position.{Position};
 ghost use Rattle.line_edits.specs.Edit.{IsValid};
-ghost use Rattle.sheet_lines.specs.Followed.{book_followed, book_way};
+ghost use Rattle.sheet_lines.specs.Followed.{book_followed, book_route};
 ghost use Rattle.sheet_lines.specs.Back.{book_back};
 ghost use Rattle.sheet_lines.specs.Kept.{kept_lines};
 ghost use Rattle.sheet_rules.specs.WellFormed.{IsWellFormed};
@@ -35,7 +35,7 @@ pub fn edit_keeps_rules<A: Axis>(workbook: &Workbook, sheet_id: u32, edit: &Line
 pub fn formulas_are_kept<A: Axis>(workbook: &Workbook, sheet_id: u32, edit: &LineEdit<A>)
     requires valid { IsValid A.along.last edit.now.kind }
     requires rules { IsWellFormed workbook.now }
-    ensures kept { (n : ℕ) (p : Position) → KeepsExactly (book_way A.along edit.now.kind sheet_id workbook.now) workbook.now n p }
+    ensures kept { (n : ℕ) (p : Position) → KeepsExactly (book_route A.along edit.now.kind sheet_id workbook.now) workbook.now n p }
 {
     // A law does no work.
     let _ = workbook;
@@ -49,7 +49,7 @@ pub fn formulas_are_kept<A: Axis>(workbook: &Workbook, sheet_id: u32, edit: &Lin
 pub fn ranges_denote<A: Axis>(workbook: &Workbook, sheet_id: u32, edit: &LineEdit<A>)
     requires valid { IsValid A.along.last edit.now.kind }
     requires kind { is_insertion_or_deletion edit.now.kind ≡ true }
-    ensures ranges { (n : ℕ) (p : Position) → IfSome (surviving (book_way A.along edit.now.kind sheet_id workbook.now) workbook.now n p) (λ s. RangesDenote s.0 s.1 (tree_at_place (book_followed A.along edit.now.kind sheet_id workbook.now) n s.0.to)) }
+    ensures ranges { (n : ℕ) (p : Position) → IfSome (surviving (book_route A.along edit.now.kind sheet_id workbook.now) workbook.now n p) (λ s. RangesDenote s.0 s.1 (tree_at_place (book_followed A.along edit.now.kind sheet_id workbook.now) n s.0.to)) }
 {
     // A law does no work.
     let _ = workbook;

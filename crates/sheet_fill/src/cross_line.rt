@@ -37,7 +37,7 @@ type FilledLinks = PlaceMap<Option<Link>>;
 #[derive(Clone, Copy)]
 pub struct Fill<'a> {
     pub alloc: Global,
-    pub plain: &'a DefaultStyle,
+    pub default: &'a DefaultStyle,
     pub sheet: &'a Worksheet,
     pub range: FillRange,
     pub locale: Locale,
@@ -201,7 +201,7 @@ fn style_at(fill: &Fill<'_>, place: Position) -> Result<Shared<Style>, EditError
     ensures style { IfOk result (λ style. style ≡ shown_style fill.now.sheet.now place) }
     ensures only { IsOkUnless result NoMemory }
 {
-    let style = fill.sheet.shown_style(place.row, place.column, fill.plain)?;
+    let style = fill.sheet.shown_style(place.row, place.column, fill.default)?;
     copy_of(style)
 }
 

@@ -75,10 +75,10 @@ pub fn plan_fill<A: Axis>(
     let sheet = workbook.worksheet(area.sheet)?;
     let wanted = fill_range::<A>(source_of(area), to)?;
     let range = test_range::<A>(wanted, sheet)?;
-    let plain = DefaultStyle::new(alloc)?;
+    let default = DefaultStyle::new(alloc)?;
     let fill = Fill {
         alloc,
-        plain: &plain,
+        default: &default,
         sheet,
         range,
         locale: workbook.locale(),

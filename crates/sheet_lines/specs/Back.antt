@@ -10,7 +10,7 @@ use Rattle.line_map.specs.Attributes.{LinesLie}
 use Rattle.line_map.specs.Contents.{cell_carried, cell_restored}
 use Rattle.line_map.specs.Maps.{lost_along, places_restored, KeysInside}
 use Rattle.line_routes.specs.Merges.{MergesLie}
-use Rattle.line_routes.specs.Way.{Way, back}
+use Rattle.line_routes.specs.RouteModel.{RouteModel, back}
 use Rattle.line_map.specs.Canonical.{AreCanonicalKept, KeptLie}
 use Rattle.formula_tree.specs.declared.Node.{Node}
 use Rattle.formula_tree.specs.Numbers.{has_canonical_numbers}
@@ -22,28 +22,28 @@ use Rattle.sheet_grid.specs.CanonicalCell.{CanonicalCells}
 use Rattle.sheet_grid.specs.Sheet.{Sheet, with_entries, only_cells}
 use Rattle.sheet_grid.specs.Book.{Book}
 use Rattle.sheet_lines.specs.declared.kept.KeptLines.{KeptLines}
-use Rattle.sheet_lines.specs.Followed.{book_way, way_on}
+use Rattle.sheet_lines.specs.Followed.{book_route, route_on}
 use Rattle.sheet_lines.specs.Sheets.{IsPlacedCell}
 use Rattle.sheet_lines.specs.Part.{part_restored}
 use Rattle.sheet_lines.specs.Parts.{parts}
 
 -- a sheet taken back: its cells with the kept trees and the lost cells, and its other parts
-abbrev pub sheet_back : Way → KeptLines → Sheet → Sheet
+abbrev pub sheet_back : RouteModel → KeptLines → Sheet → Sheet
 sheet_back w kept sheet =
     with_entries sheet (part_restored parts w kept sheet (only_cells (overlaid (lost_along w.is_edited kept.cells)
     (places_restored cell_carried (λ _ cell tree. cell_restored cell tree) w (λ place. get kept.formulas (place_on sheet.id place)) sheet.cells))))
 
 -- every sheet taken back along the way of the edited sheet
-abbrev pub sheets_back : Way → KeptLines → List Sheet → List Sheet
-sheets_back w kept sheets = map (λ sheet. sheet_back (way_on w sheet) kept sheet) sheets
+abbrev pub sheets_back : RouteModel → KeptLines → List Sheet → List Sheet
+sheets_back w kept sheets = map (λ sheet. sheet_back (route_on w sheet) kept sheet) sheets
 
 -- a workbook taken back along the way of the edited sheet: every sheet is, and all else stays
-abbrev pub book_restored : Way → Book → KeptLines → Book
+abbrev pub book_restored : RouteModel → Book → KeptLines → Book
 book_restored w book kept = record book { worksheets = sheets_back w kept book.worksheets }
 
 -- so it is along an edit of the lines of the sheet of an id
 abbrev pub book_back : Along → EditKind → ℕ → KeptLines → Book → Book
-book_back a e id kept book = book_restored (book_way a e id book) book kept
+book_back a e id kept book = book_restored (book_route a e id book) book kept
 
 -- the keys and the merges of what is kept lie inside the sheet
 pub record LieInside (a : Along) (kept : KeptLines) : Type 0 where

@@ -6,7 +6,7 @@ use Rattle.base_axis.specs.declared.MergedCell.{MergedCell}
 use Rattle.base_maps.specs.Carried.{settled}
 use Rattle.format_rules.specs.declared.ConditionalFormatting.{ConditionalFormatting}
 use Rattle.line_routes.specs.Merges.{merges_carried}
-use Rattle.line_routes.specs.Way.{Way, IsWay, back}
+use Rattle.line_routes.specs.RouteModel.{RouteModel, IsRoute, back}
 use Rattle.line_map.specs.Rules.{rules_restored}
 use Rattle.sheet_grid.specs.declared.SheetEntries.{SheetEntries}
 use Rattle.sheet_grid.specs.Sheet.{Sheet}
@@ -21,22 +21,22 @@ pub record Part : Type 1 where
   pub with_value : SheetEntries → Value → SheetEntries
   pub kept_in : KeptLines → Kept
   pub with_kept : KeptLines → Kept → KeptLines
-  pub carried : Way → Value → Value
-  pub kept : Way → Value → Kept
-  pub restored : Way → Kept → Value → Value
-  pub restores : (w : Way) → IsWay w → (v : Value) (k : Kept) → (w.is_edited ≡ true → k ≡ kept w v) → restored w k (carried w v) ≡ v
+  pub carried : RouteModel → Value → Value
+  pub kept : RouteModel → Value → Kept
+  pub restored : RouteModel → Kept → Value → Value
+  pub restores : (w : RouteModel) → IsRoute w → (v : Value) (k : Kept) → (w.is_edited ≡ true → k ≡ kept w v) → restored w k (carried w v) ≡ v
 
 module _ (part : Part) where
   -- entries with this part of a sheet, carried along
-  abbrev pub part_carried : Way → Sheet → SheetEntries → SheetEntries
+  abbrev pub part_carried : RouteModel → Sheet → SheetEntries → SheetEntries
   part_carried w sheet entries = part.with_value entries (part.carried w (part.value_of sheet))
 
   -- what is kept, with what is kept of this part of a sheet
-  abbrev pub part_kept : Way → Sheet → KeptLines → KeptLines
+  abbrev pub part_kept : RouteModel → Sheet → KeptLines → KeptLines
   part_kept w sheet kept = part.with_kept kept (part.kept w (part.value_of sheet))
 
   -- entries with this part of a sheet, taken back
-  abbrev pub part_restored : Way → KeptLines → Sheet → SheetEntries → SheetEntries
+  abbrev pub part_restored : RouteModel → KeptLines → Sheet → SheetEntries → SheetEntries
   part_restored w kept sheet entries = part.with_value entries (part.restored w (part.kept_in kept) (part.value_of sheet))
 
 -- two parts
@@ -55,9 +55,9 @@ joined p q = record {
 }
 
 -- the merges that were kept of the edited sheet, else those that go back
-abbrev pub merges_back : Way → Option (List MergedCell) → List MergedCell → List MergedCell
+abbrev pub merges_back : RouteModel → Option (List MergedCell) → List MergedCell → List MergedCell
 merges_back w kept merges = settled (merges_carried (back w)) (λ _ list. list) (if w.is_edited then kept else None) merges
 
 -- the conditional rules of the edited sheet: each that was kept, and each other one carried back. On another sheet they stay
-abbrev pub formattings_back : Way → FinMap nat_cmp ConditionalFormatting → List ConditionalFormatting → List ConditionalFormatting
+abbrev pub formattings_back : RouteModel → FinMap nat_cmp ConditionalFormatting → List ConditionalFormatting → List ConditionalFormatting
 formattings_back w kept rules = if w.is_edited then rules_restored w kept rules else rules

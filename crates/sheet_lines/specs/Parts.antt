@@ -11,7 +11,7 @@ use Rattle.line_edits.specs.Moves.{place_image}
 use Rattle.line_map.specs.Attributes.{lines_carried, lines_restored}
 use Rattle.line_map.specs.Maps.{lost_along, places_carried}
 use Rattle.line_routes.specs.Merges.{merges_carried, merges_part}
-use Rattle.line_routes.specs.Way.{Way, back, place_goes}
+use Rattle.line_routes.specs.RouteModel.{RouteModel, back, place_goes}
 use Rattle.line_map.specs.Rules.{rules_carried, rules_kept}
 use Rattle.sheet_grid.specs.declared.Cell.{Cell}
 use Rattle.sheet_grid.specs.declared.LineAttr.{LineAttr}
@@ -22,7 +22,7 @@ use Rattle.sheet_lines.specs.Part.{Part, joined, merges_back, formattings_back}
 use Rattle.sheet_lines.specs.laws.PartLaws.{links_regained, lines_regained, merges_regained, formattings_regained}
 
 -- the entries of places without an image
-abbrev pub lost_of : {X : Type 0} → Way → FinMap position_cmp X → FinMap position_cmp X
+abbrev pub lost_of : {X : Type 0} → RouteModel → FinMap position_cmp X → FinMap position_cmp X
 lost_of w m = lost_map (place_image w.along w.moves.to) m
 
 -- the links: each goes with its place, and those are kept that go nowhere

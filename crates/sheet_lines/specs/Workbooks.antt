@@ -5,7 +5,7 @@ use Rattle.base_axis.specs.Along.{rows, columns}
 use Rattle.format_rules.specs.Canonical.{AreCanonicalRules}
 use Rattle.line_map.specs.Attributes.{LinesLie}
 use Rattle.line_map.specs.Maps.{KeysInside}
-use Rattle.line_routes.specs.Way.{Way}
+use Rattle.line_routes.specs.RouteModel.{RouteModel}
 use Rattle.sheet_grid.specs.CanonicalCell.{CanonicalCells}
 use Rattle.sheet_grid.specs.Sheet.{Sheet}
 use Rattle.sheet_grid.specs.Book.{Book}
@@ -25,12 +25,12 @@ pub record IsSoundSheet (sheet : Sheet) : Type 0 where
   pub rules : AreCanonicalRules sheet.formattings
 
 -- so each sheet does, no two have one id, and the edited one is there
-pub record SheetsLie (w : Way) (book : Book) : Type 0 where
+pub record SheetsLie (w : RouteModel) (book : Book) : Type 0 where
   pub sheets : AllByRecursion IsSoundSheet book.worksheets
   pub distinct : HasDistinctIds book
   pub there : IsTrue (is_some (sheet_of book w.sheet))
 
 -- what is kept can be laid over a workbook
-pub record LinesFit (w : Way) (kept : KeptLines) : Type 0 where
+pub record LinesFit (w : RouteModel) (kept : KeptLines) : Type 0 where
   pub numbers : AreCanonicalLines kept
   pub inside : LieInside w.along kept

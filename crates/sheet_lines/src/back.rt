@@ -2,9 +2,9 @@ ghost use Rattle.std.specs.Prelude.{◌≡◌, IfOk, IsOkUnless, IsTrue, is_some
 ghost use Rattle.std.specs.List.{AllByRecursion};
 ghost use Rattle.base_values.specs.declared.EditError.TheVariants.{NoMemory};
 ghost use Rattle.line_edits.specs.Edit.{IsValid};
-ghost use Rattle.line_routes.specs.Way.{way};
+ghost use Rattle.line_routes.specs.RouteModel.{route_model};
 ghost use Rattle.sheet_lines.specs.Back.{AreCanonicalLines, LieInside, ArePlacedLines, sheet_back, sheets_back, book_back, book_restored};
-ghost use Rattle.sheet_lines.specs.Followed.{way_on};
+ghost use Rattle.sheet_lines.specs.Followed.{route_on};
 ghost use Rattle.sheet_ids.specs.Ids.{sheet_of};
 ghost use Rattle.sheet_lines.specs.Sheets.{IsPlacedSheet, IsPlacedBook};
 
@@ -65,7 +65,7 @@ fn sheet_back<A: Axis, M: LineMap<A>>(
     requires placed { IsPlacedSheet sheet.now }
     requires numbers { AreCanonicalLines kept.now }
     requires inside { LieInside A.along kept.now }
-    ensures sheet { IfOk result (λ output. output ≡ sheet_back (way_on (way route.now) sheet.now) kept.now sheet.now) }
+    ensures sheet { IfOk result (λ output. output ≡ sheet_back (route_on (route_model route.now) sheet.now) kept.now sheet.now) }
     ensures only { IsOkUnless result NoMemory }
 {
     let on = on_sheet(alloc, route, sheet);
@@ -90,7 +90,7 @@ fn sheets_back<A: Axis, M: LineMap<A>>(
     requires placed { AllByRecursion IsPlacedSheet sheets.now }
     requires numbers { AreCanonicalLines kept.now }
     requires inside { LieInside A.along kept.now }
-    ensures sheets { IfOk result (λ output. output ≡ sheets_back (way route.now) kept.now sheets.now) }
+    ensures sheets { IfOk result (λ output. output ≡ sheets_back (route_model route.now) kept.now sheets.now) }
     ensures only { IsOkUnless result NoMemory }
 {
     let mut output = Items::empty(alloc);
@@ -110,7 +110,7 @@ pub(crate) fn restored_book<A: Axis, M: LineMap<A>>(
     requires placed { IsPlacedBook workbook.now }
     requires numbers { AreCanonicalLines kept.now }
     requires inside { LieInside A.along kept.now }
-    ensures workbook { IfOk result (λ output. output ≡ book_restored (way route.now) workbook.now kept.now) }
+    ensures workbook { IfOk result (λ output. output ≡ book_restored (route_model route.now) workbook.now kept.now) }
     ensures only { IsOkUnless result NoMemory }
 {
     let sheets = sheets_back(alloc, route, kept, workbook.worksheets())?;
@@ -141,7 +141,7 @@ pub fn line_back<A: Axis>(
 {
     let opposite = edit.opposite();
     let route = book_route(workbook, sheet_id, edit, &opposite);
-    // For the proof: the route is a way.
-    route.is_way();
+    // For the proof: the route goes one to one.
+    route.is_route();
     restored_book(alloc, &route, workbook, kept)
 }

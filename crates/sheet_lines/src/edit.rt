@@ -1,7 +1,7 @@
 ghost use Rattle.std.specs.Prelude.{◌≡◌, IfOk, IsOkUnless, IsTrue, is_some};
 ghost use Rattle.base_values.specs.declared.EditError.TheVariants.{NoMemory};
 ghost use Rattle.line_edits.specs.Edit.{IsValid};
-ghost use Rattle.line_routes.specs.Way.{way};
+ghost use Rattle.line_routes.specs.RouteModel.{route_model};
 ghost use Rattle.sheet_lines.specs.Back.{AreCanonicalLines, LieInside};
 ghost use Rattle.sheet_lines.specs.Followed.{book_carried, book_followed};
 ghost use Rattle.sheet_lines.specs.Kept.{kept_lines, lines_kept};
@@ -23,10 +23,10 @@ pub(crate) fn carried_with_lines<A: Axis, M: LineMap<A>>(
     route: &Route<'_, A, M>,
     workbook: &Workbook,
 ) -> Result<(Workbook, KeptLines), EditError>
-    requires there { IsTrue (is_some (sheet_of workbook.now (way route.now).sheet)) }
+    requires there { IsTrue (is_some (sheet_of workbook.now (route_model route.now).sheet)) }
     requires placed { IsPlacedBook workbook.now }
-    ensures workbook { IfOk result (λ both. both.0 ≡ book_carried (way route.now) workbook.now) }
-    ensures kept { IfOk result (λ both. both.1 ≡ lines_kept (way route.now) workbook.now) }
+    ensures workbook { IfOk result (λ both. both.0 ≡ book_carried (route_model route.now) workbook.now) }
+    ensures kept { IfOk result (λ both. both.1 ≡ lines_kept (route_model route.now) workbook.now) }
     ensures numbers { IfOk result (λ both. AreCanonicalLines both.1) }
     ensures inside { IfOk result (λ both. LieInside A.along both.1) }
     ensures only { IsOkUnless result NoMemory }
@@ -61,7 +61,7 @@ pub fn line_edit<A: Axis>(
 {
     let opposite = edit.opposite();
     let route = book_route(workbook, sheet_id, edit, &opposite);
-    // For the proof: the route is a way.
-    route.is_way();
+    // For the proof: the route goes one to one.
+    route.is_route();
     carried_with_lines(alloc, &route, workbook)
 }

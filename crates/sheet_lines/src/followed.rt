@@ -4,8 +4,8 @@ ghost use Rattle.std.specs.List.{AllByRecursion};
 ghost use Rattle.base_values.specs.declared.EditError.TheVariants.{NoMemory};
 ghost use Rattle.base_maps.specs.Carried.{lost_map};
 ghost use Rattle.line_edits.specs.Edit.{IsValid};
-ghost use Rattle.line_routes.specs.Way.{place_goes, way};
-ghost use Rattle.sheet_lines.specs.Followed.{way_on, sheet_followed, sheets_followed, book_carried, book_followed};
+ghost use Rattle.line_routes.specs.RouteModel.{place_goes, route_model};
+ghost use Rattle.sheet_lines.specs.Followed.{route_on, sheet_followed, sheets_followed, book_carried, book_followed};
 ghost use Rattle.sheet_lines.specs.Kept.{kept_of, first_kept, trees_kept, formulas_kept};
 ghost use Rattle.sheet_lines.specs.Back.{AreCanonicalFormulas};
 ghost use Rattle.sheet_lines.specs.Part.{part_carried};
@@ -43,7 +43,7 @@ fn followed_sheet<A: Axis, M: LineMap<A>>(
     sheet: &Worksheet,
 ) -> Result<Worksheet, EditError>
     requires { IsPlacedSheet sheet.now }
-    ensures sheet { IfOk result (λ followed. followed ≡ sheet_followed (way_on (way route.now) sheet.now) sheet.now) }
+    ensures sheet { IfOk result (λ followed. followed ≡ sheet_followed (route_on (route_model route.now) sheet.now) sheet.now) }
     ensures only { IsOkUnless result NoMemory }
 {
     let (on, cells) = (on_sheet(alloc, route, sheet), sheet.cell_map());
@@ -64,9 +64,9 @@ fn parts_with_kept<A: Axis, M: LineMap<A>>(
     lost: PositionMap<Shared<Cell>>,
 ) -> Result<(SheetEntries, Option<KeptLines>), EditError>
     requires sound { IsSoundSheet on.now.sheet.now }
-    requires lost { lost ≡ lost_map (place_goes (way on.now.route)) on.now.sheet.now.cells }
-    ensures entries { IfOk result (λ both. both.0 ≡ part_carried parts (way on.now.route) on.now.sheet.now entries) }
-    ensures kept { IfOk result (λ both. both.1 ≡ then_some on.now.route.is_edited (kept_of (way on.now.route) on.now.sheet.now)) }
+    requires lost { lost ≡ lost_map (place_goes (route_model on.now.route)) on.now.sheet.now.cells }
+    ensures entries { IfOk result (λ both. both.0 ≡ part_carried parts (route_model on.now.route) on.now.sheet.now entries) }
+    ensures kept { IfOk result (λ both. both.1 ≡ then_some on.now.route.is_edited (kept_of (route_model on.now.route) on.now.sheet.now)) }
     ensures only { IsOkUnless result NoMemory }
 {
     if on.route.is_edited {
@@ -86,16 +86,16 @@ fn followed_and_kept<A: Axis, M: LineMap<A>>(
     sheet: &Worksheet,
 ) -> Result<(Worksheet, Kept<PositionMap<Shared<Node>>>), EditError>
     requires { IsPlacedSheet sheet.now }
-    ensures sheet { IfOk result (λ both. both.0 ≡ sheet_followed (way_on (way route.now) sheet.now) sheet.now) }
-    ensures edited { IfOk result (λ both. both.1.edited ≡ then_some (sheet.now.id == (way route.now).sheet) (kept_of (way_on (way route.now) sheet.now) sheet.now)) }
-    ensures fits { IfOk result (λ both. IfSome both.1.edited (LinesFit (way route.now))) }
-    ensures trees { IfOk result (λ both. both.1.formulas ≡ trees_kept (way route.now) sheet.now) }
+    ensures sheet { IfOk result (λ both. both.0 ≡ sheet_followed (route_on (route_model route.now) sheet.now) sheet.now) }
+    ensures edited { IfOk result (λ both. both.1.edited ≡ then_some (sheet.now.id == (route_model route.now).sheet) (kept_of (route_on (route_model route.now) sheet.now) sheet.now)) }
+    ensures fits { IfOk result (λ both. IfSome both.1.edited (LinesFit (route_model route.now))) }
+    ensures trees { IfOk result (λ both. both.1.formulas ≡ trees_kept (route_model route.now) sheet.now) }
     ensures numbers { IfOk result (λ both. AreCanonicalFormulas both.1.formulas) }
     ensures only { IsOkUnless result NoMemory }
 {
     let (on, cells) = (on_sheet(alloc, route, sheet), sheet.cell_map());
     // For the proof: the route is a way, and what lies inside.
-    route.is_way();
+    route.is_route();
     is_sound(sheet);
     places_inside(cells);
     let (cells, kept) = carried_with_kept(alloc, &on.route, cells)?;
@@ -115,10 +115,10 @@ pub(crate) fn followed_with_kept<A: Axis, M: LineMap<A>>(
     sheets: &[Worksheet],
 ) -> Result<(Items<Worksheet>, Kept<SheetPlaceMap<Shared<Node>>>), EditError>
     requires { AllByRecursion IsPlacedSheet sheets.now }
-    ensures sheets { IfOk result (λ both. both.0 ≡ sheets_followed (way route.now) sheets.now) }
-    ensures edited { IfOk result (λ both. both.1.edited ≡ first_kept (way route.now) sheets.now) }
-    ensures fits { IfOk result (λ both. IfSome both.1.edited (LinesFit (way route.now))) }
-    ensures formulas { IfOk result (λ both. both.1.formulas ≡ formulas_kept (way route.now) sheets.now) }
+    ensures sheets { IfOk result (λ both. both.0 ≡ sheets_followed (route_model route.now) sheets.now) }
+    ensures edited { IfOk result (λ both. both.1.edited ≡ first_kept (route_model route.now) sheets.now) }
+    ensures fits { IfOk result (λ both. IfSome both.1.edited (LinesFit (route_model route.now))) }
+    ensures formulas { IfOk result (λ both. both.1.formulas ≡ formulas_kept (route_model route.now) sheets.now) }
     ensures numbers { IfOk result (λ both. AreCanonicalFormulas both.1.formulas) }
     ensures only { IsOkUnless result NoMemory }
 {
@@ -139,7 +139,7 @@ fn followed_sheets<A: Axis, M: LineMap<A>>(
     sheets: &[Worksheet],
 ) -> Result<Items<Worksheet>, EditError>
     requires { AllByRecursion IsPlacedSheet sheets.now }
-    ensures sheets { IfOk result (λ followed. followed ≡ sheets_followed (way route.now) sheets.now) }
+    ensures sheets { IfOk result (λ followed. followed ≡ sheets_followed (route_model route.now) sheets.now) }
     ensures only { IsOkUnless result NoMemory }
 {
     let mut output = Items::empty(alloc);
@@ -156,7 +156,7 @@ pub(crate) fn carried_book<A: Axis, M: LineMap<A>>(
     workbook: &Workbook,
 ) -> Result<Workbook, EditError>
     requires { IsPlacedBook workbook.now }
-    ensures book { IfOk result (λ carried. carried ≡ book_carried (way route.now) workbook.now) }
+    ensures book { IfOk result (λ carried. carried ≡ book_carried (route_model route.now) workbook.now) }
     ensures only { IsOkUnless result NoMemory }
 {
     let sheets = followed_sheets(alloc, route, workbook.worksheets())?;
@@ -180,7 +180,7 @@ pub fn followed_book<A: Axis>(
 {
     let opposite = edit.opposite();
     let route = book_route(workbook, sheet_id, edit, &opposite);
-    // For the proof: the route is a way.
-    route.is_way();
+    // For the proof: the route goes one to one.
+    route.is_route();
     carried_book(alloc, &route, workbook)
 }

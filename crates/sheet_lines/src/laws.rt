@@ -6,12 +6,12 @@ ghost use Rattle.line_edits.specs.Edit.{IsValid};
 ghost use Rattle.line_edits.specs.Moves.{edit_moves};
 ghost use Rattle.line_map.specs.Maps.{entry_lost};
 ghost use Rattle.line_routes.specs.Merges.{merges_part};
-ghost use Rattle.line_routes.specs.Way.{place_goes};
+ghost use Rattle.line_routes.specs.RouteModel.{place_goes};
 ghost use Rattle.line_map.specs.Rules.{rules_kept, KeepsRule};
 ghost use Rattle.sheet_grid.specs.Sheet.{Sheet};
 ghost use Rattle.sheet_lines.specs.Back.{book_back};
 ghost use Rattle.sheet_lines.specs.Entries.{CarriesCells, CarriesLines, CarriesLinks, KeepsTree, OfEdited, line_lost};
-ghost use Rattle.sheet_lines.specs.Followed.{book_followed, way_of};
+ghost use Rattle.sheet_lines.specs.Followed.{book_followed, route_of};
 ghost use Rattle.sheet_lines.specs.Kept.{kept_lines};
 ghost use Rattle.sheet_ids.specs.Ids.{HasDistinctIds};
 
@@ -39,9 +39,9 @@ pub fn edit_and_back<A: Axis>(workbook: &Workbook, sheet_id: u32, edit: &LineEdi
 pub fn entries_of_sheets<A: Axis>(workbook: &Workbook, sheet_id: u32, edit: &LineEdit<A>)
     requires valid { IsValid A.along.last edit.now.kind }
     requires distinct { HasDistinctIds workbook.now }
-    ensures cells { (edited : List ℕ) (sheet : Sheet) → CarriesCells (way_of A.along (edit_moves A.along.last edit.now.kind) sheet_id edited sheet) sheet }
-    ensures links { (edited : List ℕ) (sheet : Sheet) → CarriesLinks (way_of A.along (edit_moves A.along.last edit.now.kind) sheet_id edited sheet) sheet }
-    ensures lines { (edited : List ℕ) (sheet : Sheet) → CarriesLines (way_of A.along (edit_moves A.along.last edit.now.kind) sheet_id edited sheet) sheet }
+    ensures cells { (edited : List ℕ) (sheet : Sheet) → CarriesCells (route_of A.along (edit_moves A.along.last edit.now.kind) sheet_id edited sheet) sheet }
+    ensures links { (edited : List ℕ) (sheet : Sheet) → CarriesLinks (route_of A.along (edit_moves A.along.last edit.now.kind) sheet_id edited sheet) sheet }
+    ensures lines { (edited : List ℕ) (sheet : Sheet) → CarriesLines (route_of A.along (edit_moves A.along.last edit.now.kind) sheet_id edited sheet) sheet }
     ensures lost_cells { OfEdited A.along edit.now.kind sheet_id workbook.now (λ w sheet kept. (p : Position) → get kept.cells p ≡ entry_lost (place_goes w) sheet.cells p) }
     ensures lost_links { OfEdited A.along edit.now.kind sheet_id workbook.now (λ w sheet kept. (p : Position) → get kept.links p ≡ entry_lost (place_goes w) sheet.links p) }
     ensures lost_lines { OfEdited A.along edit.now.kind sheet_id workbook.now (λ w sheet kept. (n : ℤ) → get kept.lines n ≡ line_lost w sheet n) }

@@ -1,6 +1,6 @@
 ghost use Rattle.std.specs.Prelude.{◌≡◌, true, IfOk, IsOkUnless};
 ghost use Rattle.base_values.specs.declared.EditError.TheVariants.{NoMemory};
-ghost use Rattle.line_routes.specs.Way.{way};
+ghost use Rattle.line_routes.specs.RouteModel.{route_model};
 ghost use Rattle.sheet_lines.specs.Back.{AreCanonicalLines, LieInside};
 ghost use Rattle.sheet_lines.specs.Part.{Part, joined, part_carried, part_kept, part_restored};
 ghost use Rattle.sheet_lines.specs.Workbooks.{IsSoundSheet};
@@ -26,15 +26,15 @@ pub(crate) trait SheetPart<A: Axis, M: LineMap<A>> {
     /// Entries with this part of a sheet, carried along.
     fn carry(on: &OnSheet<'_, A, M>, entries: SheetEntries) -> Result<SheetEntries, EditError>
         requires { IsSoundSheet on.now.sheet.now }
-        ensures entries { IfOk result (λ output. output ≡ part_carried part (way on.now.route) on.now.sheet.now entries) }
+        ensures entries { IfOk result (λ output. output ≡ part_carried part (route_model on.now.route) on.now.sheet.now entries) }
         ensures only { IsOkUnless result NoMemory };
 
     /// With this part of the edited sheet, carried along, and what is kept of it.
     fn carry_with_kept(on: &OnSheet<'_, A, M>, so_far: Carried) -> Result<Carried, EditError>
         requires sound { IsSoundSheet on.now.sheet.now }
         requires edited { on.now.route.is_edited ≡ true }
-        ensures entries { IfOk result (λ carried. carried.entries ≡ part_carried part (way on.now.route) on.now.sheet.now so_far.entries) }
-        ensures kept { IfOk result (λ carried. carried.kept ≡ part_kept part (way on.now.route) on.now.sheet.now so_far.kept) }
+        ensures entries { IfOk result (λ carried. carried.entries ≡ part_carried part (route_model on.now.route) on.now.sheet.now so_far.entries) }
+        ensures kept { IfOk result (λ carried. carried.kept ≡ part_kept part (route_model on.now.route) on.now.sheet.now so_far.kept) }
         ensures only { IsOkUnless result NoMemory };
 
     /// Entries with this part of a sheet that was carried along, taken back.
@@ -46,7 +46,7 @@ pub(crate) trait SheetPart<A: Axis, M: LineMap<A>> {
         requires sound { IsSoundSheet on.now.sheet.now }
         requires numbers { AreCanonicalLines kept.now }
         requires inside { LieInside A.along kept.now }
-        ensures entries { IfOk result (λ output. output ≡ part_restored part (way on.now.route) kept.now on.now.sheet.now entries) }
+        ensures entries { IfOk result (λ output. output ≡ part_restored part (route_model on.now.route) kept.now on.now.sheet.now entries) }
         ensures only { IsOkUnless result NoMemory };
 }
 

@@ -4,7 +4,7 @@ ghost use Rattle.std.specs.Prelude.{◌≡◌, IfOk, IsOkUnless};
 ghost use Rattle.base_values.specs.declared.EditError.TheVariants.{NoMemory};
 ghost use Rattle.base_maps.specs.Carried.{lost_map};
 ghost use Rattle.line_map.specs.Attributes.{LinesLie, line_goes, lines_carried, lines_restored};
-ghost use Rattle.line_routes.specs.Way.{way};
+ghost use Rattle.line_routes.specs.RouteModel.{route_model};
 ghost use Rattle.sheet_grid.specs.contracts.line_attr.LineAttrPartialEq.TheImpl as attribute;
 
 use crate::back::NoParts;
@@ -61,11 +61,11 @@ fn lines_with_lost<A: Axis, B: Axis, M: LineMap<A>>(
     lines: &AxisMap<B, LineAttr>,
 ) -> Result<(AxisMap<B, LineAttr>, NumberMap<LineAttr>), EditError>
     requires { LinesLie B.along lines.now }
-    ensures lines { IfOk result (λ both. both.0 ≡ lines_carried B.along attribute.ghosts.eq (way on.now.route) lines.now) }
-    ensures lost { IfOk result (λ both. both.1 ≡ lost_map (line_goes B.along (way on.now.route)) lines.now) }
+    ensures lines { IfOk result (λ both. both.0 ≡ lines_carried B.along attribute.ghosts.eq (route_model on.now.route) lines.now) }
+    ensures lost { IfOk result (λ both. both.1 ≡ lost_map (line_goes B.along (route_model on.now.route)) lines.now) }
     ensures only { IsOkUnless result NoMemory }
 {
-    on.route.is_way(); // for the proof
+    on.route.is_route(); // for the proof
     let (lines, kept) = carried_with_kept(on.alloc, &on.route, lines)?;
     Ok((lines, kept.lost))
 }
@@ -78,10 +78,10 @@ fn lines_back<A: Axis, B: Axis, M: LineMap<A>>(
 ) -> Result<AxisMap<B, LineAttr>, EditError>
     requires lie { LinesLie B.along lines.now }
     requires inside { LinesLie A.along kept.now.lines }
-    ensures lines { IfOk result (λ output. output ≡ lines_restored B.along (way on.now.route) lines.now kept.now.lines) }
+    ensures lines { IfOk result (λ output. output ≡ lines_restored B.along (route_model on.now.route) lines.now kept.now.lines) }
     ensures only { IsOkUnless result NoMemory }
 {
-    on.route.is_way(); // for the proof
+    on.route.is_route(); // for the proof
     let along = goes_along::<A, B, M>(&on.route);
     restored_map(on.alloc, &on.route, along, &kept.lines, &NoParts {}, lines)
 }

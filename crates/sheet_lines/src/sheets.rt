@@ -1,7 +1,7 @@
 ghost use Rattle.std.specs.Prelude.{◌≡◌};
 ghost use Rattle.line_edits.specs.Edit.{IsValid, opposite_of};
-ghost use Rattle.line_routes.specs.Way.{IsWay, way};
-ghost use Rattle.sheet_lines.specs.Followed.{book_way, way_on};
+ghost use Rattle.line_routes.specs.RouteModel.{IsRoute, route_model};
+ghost use Rattle.sheet_lines.specs.Followed.{book_route, route_on};
 
 use base_axis::Axis;
 use line_map::{LineEdit, LineMap, Route};
@@ -19,7 +19,7 @@ pub(crate) fn book_route<'e, A: Axis>(
 ) -> Route<'e, A, LineEdit<A>>
     requires valid { IsValid A.along.last edit.now.kind }
     requires opposite { opposite.now.kind ≡ opposite_of edit.now.kind }
-    ensures { way result ≡ book_way A.along edit.now.kind sheet_id workbook.now }
+    ensures { route_model result ≡ book_route A.along edit.now.kind sheet_id workbook.now }
 {
     edit_route(edit, opposite).of_sheet(sheet_id, name_of(workbook, sheet_id))
 }
@@ -39,11 +39,11 @@ pub(crate) fn on_sheet<'s, 'a: 's, A: Axis, M: LineMap<A>>(
     sheet: &'s Worksheet,
 ) -> OnSheet<'s, A, M>
     ensures sheet { result.sheet.now ≡ sheet.now }
-    ensures way { way result.route ≡ way_on (way route.now) sheet.now }
-    ensures is { IsWay (way result.route) }
+    ensures route_model { route_model result.route ≡ route_on (route_model route.now) sheet.now }
+    ensures is { IsRoute (route_model result.route) }
 {
     let route = route.on(sheet.get_sheet_id());
-    route.is_way(); // for the proof
+    route.is_route(); // for the proof
     OnSheet {
         alloc,
         route,

@@ -34,17 +34,17 @@ unfoldable pub shows_nothing : Sheet → Position → Bool
 shows_nothing sheet place = is_blank sheet (anchor_of sheet.merges place)
 
 -- the last of some places, or the start where there is none
-abbrev pub last_of : Position → List Position → Position
-last_of start [] = start
-last_of start (place ∷ places) = last_of place places
+abbrev pub last_place : Position → List Position → Position
+last_place start [] = start
+last_place start (place ∷ places) = last_place place places
 
 -- the first place that is not empty, else the last one
 unfoldable pub first_filled : (Position → Bool) → Position → List Position → Position
-first_filled empty start places = unwrap_or (find (λ place. not (empty place)) places) (last_of start places)
+first_filled empty start places = unwrap_or (find (λ place. not (empty place)) places) (last_place start places)
 
 -- the last place before the first empty one
 unfoldable pub last_filled : (Position → Bool) → Position → List Position → Position
-last_filled empty start places = last_of start (take_while (λ place. not (empty place)) places)
+last_filled empty start places = last_place start (take_while (λ place. not (empty place)) places)
 
 -- of the places that a walk passes: from an empty start, or beside an empty neighbour, the first place that is not empty, else the last one
 -- passed; from any other start the last place of the run that begins there. Where no step is possible it is the start

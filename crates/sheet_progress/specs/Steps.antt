@@ -18,8 +18,8 @@ differences [] = []
 differences (a ∷ []) = []
 differences (a ∷ b ∷ numbers) = (b -ℤ a) ∷ differences (b ∷ numbers)
 
-abbrev pub last_of : List ℤ → ℤ
-last_of numbers = slice_index_or numbers (length numbers - 1) (pos 0)
+abbrev pub last_number : List ℤ → ℤ
+last_number numbers = slice_index_or numbers (length numbers - 1) (pos 0)
 
 -- whether all differences are equal to the step
 abbrev pub are_even : ℤ → List ℤ → Bool
@@ -32,7 +32,7 @@ steps_of (a ∷ []) = None
 steps_of (a ∷ b ∷ numbers) =
     let step = b -ℤ a in
     if not (int_eq step (pos 0)) && are_even step (a ∷ b ∷ numbers)
-    then Some (record { last = last_of (a ∷ b ∷ numbers); step = step })
+    then Some (record { last = last_number (a ∷ b ∷ numbers); step = step })
     else None
 
 -- at most this far from zero

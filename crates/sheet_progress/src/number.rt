@@ -15,7 +15,7 @@ use base_tables::Locale;
 use base_values::EditError;
 use std::alloc::{AllocError, Global};
 
-fn digits_len(text: &[char]) -> usize
+fn digit_count(text: &[char]) -> usize
     ensures value { result ≡ prefix_len is_digit text.now }
     ensures within { result ≤ length text.now }
 {
@@ -55,7 +55,7 @@ fn are_groups(text: &[char], sign: char) -> bool
 fn is_whole_part(text: &[char], sign: char) -> bool
     ensures { result ≡ is_whole_part sign text.now }
 {
-    let (digits, groups) = text.split_at(digits_len(text));
+    let (digits, groups) = text.split_at(digit_count(text));
     !digits.is_empty() && (groups.is_empty() || digits.len() <= 3 && are_groups(groups, sign))
 }
 

@@ -36,13 +36,13 @@ fn has_length(name: &str) -> bool
     1 <= count && count <= 31
 }
 
-fn last_of(name: &str) -> Option<char>
+fn last_char(name: &str) -> Option<char>
     ensures { result ≡ last_or None (chars name.now) }
 {
     name.chars().last()
 }
 
-fn first_of(name: &str) -> Option<char>
+fn first_char(name: &str) -> Option<char>
     ensures { result ≡ slice_get (chars name.now) 0 }
 {
     name.chars().next()
@@ -60,7 +60,7 @@ fn is_apostrophe(c: Option<char>) -> bool
 fn has_outer_apostrophe(name: &str) -> bool
     ensures { result ≡ has_outer_apostrophe (chars name.now) }
 {
-    is_apostrophe(first_of(name)) || is_apostrophe(last_of(name))
+    is_apostrophe(first_char(name)) || is_apostrophe(last_char(name))
 }
 
 /// Whether a text may be the name of a sheet: 1 to 31 characters, none of them one of

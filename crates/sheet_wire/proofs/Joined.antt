@@ -1,4 +1,4 @@
--- What parts spell that are written one after another.
+-- What parts encode that are written one after another.
 use Rattle.std.proofs.Common.{◌≡◌, List, ℕ, ◌++◌, ap, ◌∙◌, append_assoc}
 
 -- a part, and what is written after it

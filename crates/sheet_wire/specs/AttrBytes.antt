@@ -2,12 +2,12 @@
 use Rattle.std.specs.Prelude.{ℕ, ◌<◌, ◌^◌, ℤ, List, ◌++◌, Option, IfSome, FitsSigned}
 use Rattle.std.specs.Int.{w32, to_be_bytes}
 use Rattle.sheet_grid.specs.declared.LineAttr.{LineAttr}
-use Rattle.base_wire.specs.Spelling.{spell_option, spell_signed}
-use Rattle.grid_wire.specs.LineBytes.{spell_line, FitsLine}
+use Rattle.base_wire.specs.Encoding.{encode_option, encode_signed}
+use Rattle.grid_wire.specs.LineBytes.{encode_line, FitsLine}
 
 -- the id of a sheet, a line, and what it has before and after
-abbrev pub spell_attr_change : ℕ → ℤ → Option LineAttr → Option LineAttr → List ℕ
-spell_attr_change id line old new = to_be_bytes w32 id ++ (spell_signed w32 line ++ (spell_option spell_line old ++ spell_option spell_line new))
+abbrev pub encode_attr_change : ℕ → ℤ → Option LineAttr → Option LineAttr → List ℕ
+encode_attr_change id line old new = to_be_bytes w32 id ++ (encode_signed w32 line ++ (encode_option encode_line old ++ encode_option encode_line new))
 
 -- the parts of such a change, which bytes can carry
 pub record FitsAttrChange (id : ℕ) (at : ℤ) (before later : Option LineAttr) : Type 0 where

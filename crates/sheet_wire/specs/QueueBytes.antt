@@ -9,48 +9,48 @@ use Rattle.sheet_history.specs.Entries.{line_tag}
 use Rattle.sheet_history.specs.declared.DiffType.{DiffType}
 use Rattle.sheet_history.specs.declared.DiffType.TheVariants.{Undo, Redo}
 use Rattle.sheet_history.specs.declared.QueueDiffs.{QueueDiffs}
-use Rattle.base_wire.specs.Spelling.{spell_code, spell_list, spell_text, FitsItems}
-use Rattle.setting_wire.specs.TableBytes.{spell_locale, spell_zone}
-use Rattle.setting_wire.specs.ThemeBytes.{spell_theme}
-use Rattle.cell_wire.specs.CellBytes.{spell_cell, FitsCell, IsKnownCell}
-use Rattle.cell_wire.specs.LinkBytes.{spell_link, FitsLink}
-use Rattle.cell_wire.specs.MergeBytes.{spell_merges, FitsMerges}
+use Rattle.base_wire.specs.Encoding.{encode_code, encode_list, encode_text, FitsItems}
+use Rattle.setting_wire.specs.TableBytes.{encode_locale, encode_zone}
+use Rattle.setting_wire.specs.ThemeBytes.{encode_theme}
+use Rattle.cell_wire.specs.CellBytes.{encode_cell, FitsCell, IsKnownCell}
+use Rattle.cell_wire.specs.LinkBytes.{encode_link, FitsLink}
+use Rattle.cell_wire.specs.MergeBytes.{encode_merges, FitsMerges}
 use Rattle.grid_wire.specs.LineBytes.{IsKnownLine}
 use Rattle.lines_wire.specs.KeptBytes.{IsKnownKept}
-use Rattle.sheet_wire.specs.AttrBytes.{spell_attr_change, FitsAttrChange}
-use Rattle.sheet_wire.specs.ChangeBytes.{spell_change, FitsChange, spell_sheet_change, FitsSheetChange}
-use Rattle.sheet_wire.specs.LinesBytes.{spell_lines, FitsLines}
-use Rattle.sheet_wire.specs.SettingBytes.{spell_twice, FitsSetting}
-use Rattle.sheet_wire.specs.SheetsBytes.{spell_color_change, spell_state_change, spell_grid_change, spell_count_change, FitsField, spell_new, FitsNew, spell_copy, FitsCopy}
-use Rattle.sheet_wire.specs.RulesBytes.{spell_rule, FitsRuleDiff, IsKnownRuleChange}
-use Rattle.sheet_wire.specs.TreesBytes.{spell_rename, FitsRename, AreKnownTrees, spell_name_change, FitsNameChange, IsKnownChange}
-use Rattle.sheet_wire.specs.SheetsBytes.{spell_deletion, FitsDeletion, IsKnownKeptSheet, spell_move, FitsMove}
+use Rattle.sheet_wire.specs.AttrBytes.{encode_attr_change, FitsAttrChange}
+use Rattle.sheet_wire.specs.ChangeBytes.{encode_change, FitsChange, encode_sheet_change, FitsSheetChange}
+use Rattle.sheet_wire.specs.LinesBytes.{encode_lines, FitsLines}
+use Rattle.sheet_wire.specs.SettingBytes.{encode_twice, FitsSetting}
+use Rattle.sheet_wire.specs.SheetsBytes.{encode_color_change, encode_state_change, encode_grid_change, encode_count_change, FitsField, encode_new, FitsNew, encode_copy, FitsCopy}
+use Rattle.sheet_wire.specs.RulesBytes.{encode_rule, FitsRuleDiff, IsKnownRuleChange}
+use Rattle.sheet_wire.specs.TreesBytes.{encode_rename, FitsRename, AreKnownTrees, encode_name_change, FitsNameChange, IsKnownChange}
+use Rattle.sheet_wire.specs.SheetsBytes.{encode_deletion, FitsDeletion, IsKnownKeptSheet, encode_move, FitsMove}
 
 -- ---- diffs
 
 -- the tag, and then its fields
-abbrev pub spell_diff : Diff → List ℕ
-spell_diff (CellDiff sheet place old new) = 1 ∷ spell_change spell_cell sheet place old new
-spell_diff (LinkDiff sheet place old new) = 2 ∷ spell_change spell_link sheet place old new
-spell_diff (AttrDiff sheet axis line old new) = line_tag axis ∷ spell_attr_change sheet line old new
-spell_diff (MergesDiff sheet old new) = 5 ∷ spell_sheet_change spell_merges sheet old new
-spell_diff (RuleDiff sheet change) = 6 ∷ spell_rule sheet change
-spell_diff (LinesDiff sheet axis edit kept) = 7 ∷ spell_lines sheet axis edit kept
-spell_diff (NewDiff sheet index name) = 8 ∷ spell_new sheet index name
-spell_diff (CopyDiff source sheet index name) = 9 ∷ spell_copy source sheet index name
-spell_diff (DeletionDiff index kept) = 10 ∷ spell_deletion index kept
-spell_diff (RenameDiff sheet old new kept) = 11 ∷ spell_rename sheet old new kept
-spell_diff (MoveDiff sheet from to) = 12 ∷ spell_move sheet from to
-spell_diff (FieldDiff sheet (change.Color old new)) = 13 ∷ spell_color_change sheet old new
-spell_diff (FieldDiff sheet (change.State old new)) = 14 ∷ spell_state_change sheet old new
-spell_diff (FieldDiff sheet (change.GridLines old new)) = 15 ∷ spell_grid_change sheet old new
-spell_diff (SettingDiff (setting.Theme old new)) = 18 ∷ spell_twice spell_theme old new
-spell_diff (SettingDiff (setting.Name old new)) = 19 ∷ spell_twice spell_text old new
-spell_diff (SettingDiff (setting.Locale old new)) = 20 ∷ spell_twice spell_locale old new
-spell_diff (SettingDiff (setting.Zone old new)) = 21 ∷ spell_twice spell_zone old new
-spell_diff (NameDiff change kept) = 22 ∷ spell_name_change change kept
-spell_diff (FieldDiff sheet (change.FrozenRows old new)) = 16 ∷ spell_count_change sheet old new
-spell_diff (FieldDiff sheet (change.FrozenColumns old new)) = 17 ∷ spell_count_change sheet old new
+abbrev pub encode_diff : Diff → List ℕ
+encode_diff (CellDiff sheet place old new) = 1 ∷ encode_change encode_cell sheet place old new
+encode_diff (LinkDiff sheet place old new) = 2 ∷ encode_change encode_link sheet place old new
+encode_diff (AttrDiff sheet axis line old new) = line_tag axis ∷ encode_attr_change sheet line old new
+encode_diff (MergesDiff sheet old new) = 5 ∷ encode_sheet_change encode_merges sheet old new
+encode_diff (RuleDiff sheet change) = 6 ∷ encode_rule sheet change
+encode_diff (LinesDiff sheet axis edit kept) = 7 ∷ encode_lines sheet axis edit kept
+encode_diff (NewDiff sheet index name) = 8 ∷ encode_new sheet index name
+encode_diff (CopyDiff source sheet index name) = 9 ∷ encode_copy source sheet index name
+encode_diff (DeletionDiff index kept) = 10 ∷ encode_deletion index kept
+encode_diff (RenameDiff sheet old new kept) = 11 ∷ encode_rename sheet old new kept
+encode_diff (MoveDiff sheet from to) = 12 ∷ encode_move sheet from to
+encode_diff (FieldDiff sheet (change.Color old new)) = 13 ∷ encode_color_change sheet old new
+encode_diff (FieldDiff sheet (change.State old new)) = 14 ∷ encode_state_change sheet old new
+encode_diff (FieldDiff sheet (change.GridLines old new)) = 15 ∷ encode_grid_change sheet old new
+encode_diff (SettingDiff (setting.Theme old new)) = 18 ∷ encode_twice encode_theme old new
+encode_diff (SettingDiff (setting.Name old new)) = 19 ∷ encode_twice encode_text old new
+encode_diff (SettingDiff (setting.Locale old new)) = 20 ∷ encode_twice encode_locale old new
+encode_diff (SettingDiff (setting.Zone old new)) = 21 ∷ encode_twice encode_zone old new
+encode_diff (NameDiff change kept) = 22 ∷ encode_name_change change kept
+encode_diff (FieldDiff sheet (change.FrozenRows old new)) = 16 ∷ encode_count_change sheet old new
+encode_diff (FieldDiff sheet (change.FrozenColumns old new)) = 17 ∷ encode_count_change sheet old new
 
 -- its parts are ones that bytes can carry
 abbrev pub FitsDiff : Diff → Type 0
@@ -98,8 +98,8 @@ direction_code Undo = 0
 direction_code Redo = 1
 
 -- its direction, and its diffs
-abbrev pub spell_entry : QueueDiffs → List ℕ
-spell_entry entry = spell_code direction_code entry.kind ++ spell_list spell_diff entry.list
+abbrev pub encode_entry : QueueDiffs → List ℕ
+encode_entry entry = encode_code direction_code entry.kind ++ encode_list encode_diff entry.list
 
 abbrev pub FitsEntry : QueueDiffs → Type 0
 FitsEntry entry = FitsList entry.list
@@ -113,9 +113,9 @@ IsKnownEntry entry = AllByRecursion IsKnownDiff entry.list
 abbrev pub magic : List ℕ
 magic = codes "ICQ1"
 
--- the one spelling of a queue
-unfoldable pub spell_queue : List QueueDiffs → List ℕ
-spell_queue queue = magic ++ spell_list spell_entry queue
+-- the one encoding of a queue
+unfoldable pub encode_queue : List QueueDiffs → List ℕ
+encode_queue queue = magic ++ encode_list encode_entry queue
 
 -- a queue that bytes can carry
 abbrev pub FitsQueue : List QueueDiffs → Type 0
@@ -125,6 +125,6 @@ FitsQueue = FitsItems FitsEntry
 abbrev pub IsKnownQueue : List QueueDiffs → Type 0
 IsKnownQueue = AllByRecursion IsKnownEntry
 
--- these bytes are the spelling of no queue that fits
+-- these bytes are the encoding of no queue that fits
 abbrev pub IsNoQueue : List ℕ → Type 0
-IsNoQueue bytes = (queue : List QueueDiffs) → FitsQueue queue → bytes ≢ spell_queue queue
+IsNoQueue bytes = (queue : List QueueDiffs) → FitsQueue queue → bytes ≢ encode_queue queue

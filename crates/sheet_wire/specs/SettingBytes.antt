@@ -1,13 +1,13 @@
 -- The bytes of changes of the settings of a workbook.
 use Rattle.std.specs.Prelude.{List, ℕ, ◌++◌}
-use Rattle.base_wire.specs.Spelling.{FitsText}
+use Rattle.base_wire.specs.Encoding.{FitsText}
 use Rattle.setting_wire.specs.ThemeBytes.{FitsTheme}
 use Rattle.sheet_history.specs.declared.SettingChange.{SettingChange}
 use Rattle.sheet_history.specs.declared.SettingChange.TheVariants as setting
 
 -- what it was, and what it is
-abbrev pub spell_twice : {A : Type 0} → (A → List ℕ) → A → A → List ℕ
-spell_twice spell old new = spell old ++ spell new
+abbrev pub encode_twice : {A : Type 0} → (A → List ℕ) → A → A → List ℕ
+encode_twice encode old new = encode old ++ encode new
 
 -- the parts of a change of a setting, which bytes can carry
 abbrev pub FitsSetting : SettingChange → Type 0

@@ -7,27 +7,27 @@ use Rattle.sheet_grid.specs.declared.SheetState.{SheetState}
 use Rattle.book_sheets.specs.declared.KeptSheet.{KeptSheet}
 use Rattle.sheet_history.specs.declared.FieldChange.{FieldChange}
 use Rattle.sheet_history.specs.declared.FieldChange.TheVariants as change
-use Rattle.base_wire.specs.Spelling.{Any, spell_code, boolean_code, spell_signed, spell_text, FitsText}
-use Rattle.map_wire.specs.MapBytes.{spell_map, FitsMap}
-use Rattle.cell_wire.specs.StyleBytes.{spell_color, FitsColor}
+use Rattle.base_wire.specs.Encoding.{Any, encode_code, boolean_code, encode_signed, encode_text, FitsText}
+use Rattle.map_wire.specs.MapBytes.{encode_map, FitsMap}
+use Rattle.cell_wire.specs.StyleBytes.{encode_color, FitsColor}
 use Rattle.grid_wire.specs.StateBytes.{state_code}
-use Rattle.grid_wire.specs.NameBytes.{spell_name, FitsName, IsKnownName}
-use Rattle.grid_wire.specs.SheetBytes.{spell_sheet, FitsSheet, IsKnownSheet}
-use Rattle.sheet_wire.specs.ChangeBytes.{spell_sheet_change, FitsSheetChange}
+use Rattle.grid_wire.specs.NameBytes.{encode_name, FitsName, IsKnownName}
+use Rattle.grid_wire.specs.SheetBytes.{encode_sheet, FitsSheet, IsKnownSheet}
+use Rattle.sheet_wire.specs.ChangeBytes.{encode_sheet_change, FitsSheetChange}
 
 -- ---- fields of a sheet
 
-abbrev pub spell_color_change : ℕ → Color → Color → List ℕ
-spell_color_change = spell_sheet_change spell_color
+abbrev pub encode_color_change : ℕ → Color → Color → List ℕ
+encode_color_change = encode_sheet_change encode_color
 
-abbrev pub spell_state_change : ℕ → SheetState → SheetState → List ℕ
-spell_state_change = spell_sheet_change (spell_code state_code)
+abbrev pub encode_state_change : ℕ → SheetState → SheetState → List ℕ
+encode_state_change = encode_sheet_change (encode_code state_code)
 
-abbrev pub spell_grid_change : ℕ → Bool → Bool → List ℕ
-spell_grid_change = spell_sheet_change (spell_code boolean_code)
+abbrev pub encode_grid_change : ℕ → Bool → Bool → List ℕ
+encode_grid_change = encode_sheet_change (encode_code boolean_code)
 
-abbrev pub spell_count_change : ℕ → ℤ → ℤ → List ℕ
-spell_count_change = spell_sheet_change (spell_signed w32)
+abbrev pub encode_count_change : ℕ → ℤ → ℤ → List ℕ
+encode_count_change = encode_sheet_change (encode_signed w32)
 
 -- the parts of a change of a field, which bytes can carry
 abbrev pub FitsField : ℕ → FieldChange → Type 0
@@ -40,8 +40,8 @@ FitsField id (change.FrozenColumns old new) = FitsSheetChange (FitsSigned w32) i
 -- ---- new sheets and copies
 
 -- the id of the sheet, the index where it comes, and its name
-unfoldable pub spell_new : ℕ → ℕ → List ℕ → List ℕ
-spell_new id index name = to_be_bytes w32 id ++ (to_be_bytes w32 index ++ spell_text name)
+unfoldable pub encode_new : ℕ → ℕ → List ℕ → List ℕ
+encode_new id index name = to_be_bytes w32 id ++ (to_be_bytes w32 index ++ encode_text name)
 
 -- the parts of a new sheet, which bytes can carry
 pub record FitsNew (id at : ℕ) (text : List ℕ) : Type 0 where
@@ -50,8 +50,8 @@ pub record FitsNew (id at : ℕ) (text : List ℕ) : Type 0 where
   pub name : FitsText text
 
 -- the id of the sheet that is copied, and those parts of the copy
-unfoldable pub spell_copy : ℕ → ℕ → ℕ → List ℕ → List ℕ
-spell_copy source id index name = to_be_bytes w32 source ++ spell_new id index name
+unfoldable pub encode_copy : ℕ → ℕ → ℕ → List ℕ → List ℕ
+encode_copy source id index name = to_be_bytes w32 source ++ encode_new id index name
 
 -- the parts of a copy, which bytes can carry
 pub record FitsCopy (original id at : ℕ) (text : List ℕ) : Type 0 where
@@ -61,8 +61,8 @@ pub record FitsCopy (original id at : ℕ) (text : List ℕ) : Type 0 where
 -- ---- deleted sheets
 
 -- the sheet, and the names of its scope by their places
-unfoldable pub spell_kept_sheet : KeptSheet → List ℕ
-spell_kept_sheet kept = spell_sheet kept.sheet ++ spell_map (to_be_bytes w64) spell_name kept.names
+unfoldable pub encode_kept_sheet : KeptSheet → List ℕ
+encode_kept_sheet kept = encode_sheet kept.sheet ++ encode_map (to_be_bytes w64) encode_name kept.names
 
 -- a sheet and names that bytes can carry
 pub record FitsKeptSheet (kept : KeptSheet) : Type 0 where
@@ -75,8 +75,8 @@ pub record IsKnownKeptSheet (kept : KeptSheet) : Type 0 where
   pub names : (place : ℕ) → IfSome (get kept.names place) IsKnownName
 
 -- the index where the sheet stood, and what is kept of it
-unfoldable pub spell_deletion : ℕ → KeptSheet → List ℕ
-spell_deletion index kept = to_be_bytes w32 index ++ spell_kept_sheet kept
+unfoldable pub encode_deletion : ℕ → KeptSheet → List ℕ
+encode_deletion index kept = to_be_bytes w32 index ++ encode_kept_sheet kept
 
 -- an index and a kept sheet that bytes can carry
 pub record FitsDeletion (at : ℕ) (part : KeptSheet) : Type 0 where
@@ -86,8 +86,8 @@ pub record FitsDeletion (at : ℕ) (part : KeptSheet) : Type 0 where
 -- ---- moved sheets
 
 -- the id of the sheet, and the indexes between which it moves
-unfoldable pub spell_move : ℕ → ℕ → ℕ → List ℕ
-spell_move id from to = to_be_bytes w32 id ++ (to_be_bytes w32 from ++ to_be_bytes w32 to)
+unfoldable pub encode_move : ℕ → ℕ → ℕ → List ℕ
+encode_move id from to = to_be_bytes w32 id ++ (to_be_bytes w32 from ++ to_be_bytes w32 to)
 
 -- three numbers of 32 bits
 pub record FitsMove (id before later : ℕ) : Type 0 where

@@ -6,21 +6,21 @@ use Rattle.base_maps.specs.declared.SheetPlace.{SheetPlace}
 use Rattle.base_maps.specs.declared.SheetIndex.{SheetIndex}
 use Rattle.book_names.specs.declared.KeptTrees.{KeptTrees}
 use Rattle.name_edits.specs.declared.NameChange.{NameChange}
-use Rattle.base_wire.specs.Spelling.{spell_option, spell_text, FitsText}
-use Rattle.formula_wire.specs.NodeBytes.{spell_node}
+use Rattle.base_wire.specs.Encoding.{encode_option, encode_text, FitsText}
+use Rattle.formula_wire.specs.NodeBytes.{encode_node}
 use Rattle.formula_wire.specs.Carried.{FitsNode, IsKnownNode}
-use Rattle.map_wire.specs.MapBytes.{spell_map, FitsMap}
-use Rattle.grid_wire.specs.NameBytes.{spell_name, FitsName, IsKnownName}
-use Rattle.rule_wire.specs.FormattingBytes.{spell_formatting, FitsFormatting, IsKnownFormatting}
-use Rattle.lines_wire.specs.PartBytes.{spell_sheet_place, FitsSheetPlace, spell_sheet_index, FitsSheetIndex}
+use Rattle.map_wire.specs.MapBytes.{encode_map, FitsMap}
+use Rattle.grid_wire.specs.NameBytes.{encode_name, FitsName, IsKnownName}
+use Rattle.rule_wire.specs.FormattingBytes.{encode_formatting, FitsFormatting, IsKnownFormatting}
+use Rattle.lines_wire.specs.PartBytes.{encode_sheet_place, FitsSheetPlace, encode_sheet_index, FitsSheetIndex}
 
 -- ---- kept trees
 
 -- the trees of cells, the conditional rules by their sheets and indexes, and the trees of defined names by their places in the list
-unfoldable pub spell_trees : KeptTrees → List ℕ
-spell_trees kept =
-    spell_map spell_sheet_place spell_node kept.formulas
-    ++ (spell_map spell_sheet_index spell_formatting kept.formattings ++ spell_map (to_be_bytes w64) spell_node kept.names)
+unfoldable pub encode_trees : KeptTrees → List ℕ
+encode_trees kept =
+    encode_map encode_sheet_place encode_node kept.formulas
+    ++ (encode_map encode_sheet_index encode_formatting kept.formattings ++ encode_map (to_be_bytes w64) encode_node kept.names)
 
 -- trees and conditional rules that bytes can carry
 pub record FitsTrees (kept : KeptTrees) : Type 0 where
@@ -37,8 +37,8 @@ pub record AreKnownTrees (kept : KeptTrees) : Type 0 where
 -- ---- renamed sheets
 
 -- the id of the sheet, its old name, its new name, and what is kept
-unfoldable pub spell_rename : ℕ → List ℕ → List ℕ → KeptTrees → List ℕ
-spell_rename id old new kept = to_be_bytes w32 id ++ (spell_text old ++ (spell_text new ++ spell_trees kept))
+unfoldable pub encode_rename : ℕ → List ℕ → List ℕ → KeptTrees → List ℕ
+encode_rename id old new kept = to_be_bytes w32 id ++ (encode_text old ++ (encode_text new ++ encode_trees kept))
 
 -- the parts of a renamed sheet, which bytes can carry
 pub record FitsRename (id : ℕ) (before later : List ℕ) (trees : KeptTrees) : Type 0 where
@@ -50,8 +50,8 @@ pub record FitsRename (id : ℕ) (before later : List ℕ) (trees : KeptTrees) :
 -- ---- changed names
 
 -- the place of the name, the old one, the new one, and what is kept
-unfoldable pub spell_name_change : NameChange → KeptTrees → List ℕ
-spell_name_change change kept = to_be_bytes w64 change.index ++ (spell_option spell_name change.old ++ (spell_option spell_name change.new ++ spell_trees kept))
+unfoldable pub encode_name_change : NameChange → KeptTrees → List ℕ
+encode_name_change change kept = to_be_bytes w64 change.index ++ (encode_option encode_name change.old ++ (encode_option encode_name change.new ++ encode_trees kept))
 
 -- the parts of a changed name, which bytes can carry
 pub record FitsNameChange (change : NameChange) (trees : KeptTrees) : Type 0 where

@@ -4,7 +4,7 @@ ghost use Rattle.std.specs.Prelude.{◌≡◌, ◌++◌, IfSome, OnOk};
 ghost use Rattle.base_values.specs.Answers.{Answers, map_ok};
 ghost use Rattle.grid_wire.specs.LineBytes.{IsKnownLine};
 ghost use Rattle.sheet_history.specs.Entries.{line_tag};
-ghost use Rattle.sheet_wire.specs.AttrBytes.{spell_attr_change, FitsAttrChange};
+ghost use Rattle.sheet_wire.specs.AttrBytes.{encode_attr_change, FitsAttrChange};
 ghost use Rattle.sheet_wire.specs.laws.Reading.{attr_diff_at};
 
 use crate::steps::read;
@@ -58,7 +58,7 @@ pub(crate) fn put_attr_change(
     old: &Option<LineAttr>,
     new: &Option<LineAttr>,
 ) -> Result<(), AllocError>
-    ensures spelled { OnOk result (out.new.items ≡ out.old.items ++ spell_attr_change sheet line old.now new.now) }
+    ensures encoded { OnOk result (out.new.items ≡ out.old.items ++ encode_attr_change sheet line old.now new.now) }
     ensures fits { OnOk result (IfSome old.now IsKnownLine → IfSome new.now IsKnownLine → FitsAttrChange sheet line old.now new.now) }
 {
     out.extend_from_slice(&sheet.to_be_bytes())?;

@@ -6,7 +6,7 @@ ghost use Rattle.base_values.specs.declared.EditError.TheVariants.{NoMemory, Par
 ghost use Rattle.base_wire.specs.laws.Reading.{code_at, rest_after};
 ghost use Rattle.sheet_wire.specs.laws.Reading.{change_at, axes, cell_diff_at, diff_at, lines_diff_at, link_diff_at, merges_diff_at, directions, entry_at, queue_of};
 ghost use Rattle.sheet_wire.specs.LinesBytes.{axis_code};
-ghost use Rattle.sheet_wire.specs.QueueBytes.{direction_code, magic, spell_queue, FitsQueue, IsNoQueue};
+ghost use Rattle.sheet_wire.specs.QueueBytes.{direction_code, magic, encode_queue, FitsQueue, IsNoQueue};
 ghost use Rattle.sheet_history.specs.declared.QueueDiffs.{QueueDiffs};
 
 use crate::attributes::attr_diff_at;
@@ -200,10 +200,10 @@ fn read_queue(
     Ok(entries)
 }
 
-/// The queue of diffs that all of these bytes spell (docs/FORMATS.md, "Bytes"). Each style in it that is equal
+/// The queue of diffs that all of these bytes encode (docs/FORMATS.md, "Bytes"). Each style in it that is equal
 /// to the plain one shares it.
 ///
-/// `ParseDiffs` where they are the spelling of no queue: where they are cut short or go on, begin
+/// `ParseDiffs` where they are the encoding of no queue: where they are cut short or go on, begin
 /// otherwise, or where a tag, a code, a count, a decimal or a text in them is not one. Else
 /// refuses with `NoMemory` alone.
 pub fn decode_queue(
@@ -211,12 +211,12 @@ pub fn decode_queue(
     plain: &Shared<Style>,
     bytes: &[u8],
 ) -> Result<Items<QueueDiffs>, EditError>
-    // What is read was spelled so.
-    ensures spelled { IfOk result (λ queue. bytes.now ≡ spell_queue queue) }
+    // What is read was encoded so.
+    ensures encoded { IfOk result (λ queue. bytes.now ≡ encode_queue queue) }
     ensures fits { IfOk result FitsQueue }
 
-    // What is spelled is read, so bytes are refused only where they are no queue.
-    ensures again { (queue : List QueueDiffs) → FitsQueue queue → bytes.now ≡ spell_queue queue → Answers result (Ok queue) }
+    // What is encoded is read, so bytes are refused only where they are no queue.
+    ensures again { (queue : List QueueDiffs) → FitsQueue queue → bytes.now ≡ encode_queue queue → Answers result (Ok queue) }
     ensures refused { IfErr result (λ e. e ≢ NoMemory → (e ≡ ParseDiffs) × IsNoQueue bytes.now) }
 {
     read_queue(alloc, plain, bytes)

@@ -3,9 +3,9 @@
 ghost use Rattle.std.specs.Prelude.{◌≡◌, ◌++◌, OnOk, IfOk, IfSome, IsOkUnless};
 ghost use Rattle.base_values.specs.declared.EditError.TheVariants.{NoMemory};
 ghost use Rattle.lines_wire.specs.KeptBytes.{IsKnownKept};
-ghost use Rattle.sheet_wire.specs.ChangeBytes.{spell_change, FitsChange};
-ghost use Rattle.sheet_wire.specs.LinesBytes.{spell_lines, FitsLines};
-ghost use Rattle.sheet_wire.specs.QueueBytes.{spell_diff, spell_entry, spell_queue, FitsDiff, FitsEntry, FitsQueue, IsKnownDiff, IsKnownEntry, IsKnownQueue};
+ghost use Rattle.sheet_wire.specs.ChangeBytes.{encode_change, FitsChange};
+ghost use Rattle.sheet_wire.specs.LinesBytes.{encode_lines, FitsLines};
+ghost use Rattle.sheet_wire.specs.QueueBytes.{encode_diff, encode_entry, encode_queue, FitsDiff, FitsEntry, FitsQueue, IsKnownDiff, IsKnownEntry, IsKnownQueue};
 
 use crate::attributes::{line_tag, put_attr_change};
 use crate::codes::{axis_code, direction_code};
@@ -34,7 +34,7 @@ fn put_change<P: Part>(
     old: &Option<P::Value>,
     new: &Option<P::Value>,
 ) -> Result<(), AllocError>
-    ensures spelled { OnOk result (out.new.items ≡ out.old.items ++ spell_change P.spelling sheet position old.now new.now) }
+    ensures encoded { OnOk result (out.new.items ≡ out.old.items ++ encode_change P.encoding sheet position old.now new.now) }
     ensures fits { OnOk result (IfSome old.now P.Known → IfSome new.now P.Known → FitsChange P.Fits sheet position old.now new.now) }
 {
     out.extend_from_slice(&sheet.to_be_bytes())?;
@@ -51,7 +51,7 @@ fn put_lines(
     edit: EditKind,
     kept: &Shared<KeptLines>,
 ) -> Result<(), AllocError>
-    ensures spelled { OnOk result (out.new.items ≡ out.old.items ++ spell_lines sheet axis edit kept.now) }
+    ensures encoded { OnOk result (out.new.items ≡ out.old.items ++ encode_lines sheet axis edit kept.now) }
     ensures fits { OnOk result (IsKnownKept kept.now → FitsLines sheet edit kept.now) }
 {
     out.extend_from_slice(&sheet.to_be_bytes())?;
@@ -62,7 +62,7 @@ fn put_lines(
 }
 
 pub(crate) fn put_diff(out: &mut Vec<u8>, diff: &Diff) -> Result<(), AllocError>
-    ensures spelled { OnOk result (out.new.items ≡ out.old.items ++ spell_diff diff.now) }
+    ensures encoded { OnOk result (out.new.items ≡ out.old.items ++ encode_diff diff.now) }
     ensures fits { OnOk result (IsKnownDiff diff.now → FitsDiff diff.now) }
 {
     match diff {
@@ -152,7 +152,7 @@ pub(crate) fn put_diff(out: &mut Vec<u8>, diff: &Diff) -> Result<(), AllocError>
 }
 
 pub(crate) fn put_entry(out: &mut Vec<u8>, entry: &QueueDiffs) -> Result<(), AllocError>
-    ensures spelled { OnOk result (out.new.items ≡ out.old.items ++ spell_entry entry.now) }
+    ensures encoded { OnOk result (out.new.items ≡ out.old.items ++ encode_entry entry.now) }
     ensures fits { OnOk result (IsKnownEntry entry.now → FitsEntry entry.now) }
 {
     out.push(direction_code(entry.kind))?;
@@ -161,10 +161,10 @@ pub(crate) fn put_entry(out: &mut Vec<u8>, entry: &QueueDiffs) -> Result<(), All
 
 /// The bytes of a queue of diffs, whose numbers are canonical, whose trees are at most 64 deep, and whose
 /// lines have something of their own. They can be read again as the queue (docs/FORMATS.md, "Bytes"). Refuses with `NoMemory` alone.
-#[tactic(auto, unfolding(crate::specs::QueueBytes::spell_queue))]
+#[tactic(auto, unfolding(crate::specs::QueueBytes::encode_queue))]
 pub fn encode_queue(alloc: Global, queue: &[QueueDiffs]) -> Result<Vec<u8>, EditError>
     requires known { IsKnownQueue queue.now }
-    ensures spelled { IfOk result (λ bytes. bytes.items ≡ spell_queue queue.now) }
+    ensures encoded { IfOk result (λ bytes. bytes.items ≡ encode_queue queue.now) }
     ensures fits { IfOk result (λ _. FitsQueue queue.now) }
     ensures only { IsOkUnless result NoMemory }
 {

@@ -1,11 +1,11 @@
 //! The bytes of diffs of the fields of a sheet and of the list of sheets.
 
 ghost use Rattle.std.specs.Prelude.{◌≡◌, ◌++◌, OnOk};
-ghost use Rattle.sheet_wire.specs.ChangeBytes.{spell_sheet_change, FitsSheetChange};
-ghost use Rattle.sheet_wire.specs.QueueBytes.{spell_diff};
-ghost use Rattle.sheet_wire.specs.SheetsBytes.{spell_copy, spell_deletion, spell_move, spell_new};
+ghost use Rattle.sheet_wire.specs.ChangeBytes.{encode_sheet_change, FitsSheetChange};
+ghost use Rattle.sheet_wire.specs.QueueBytes.{encode_diff};
+ghost use Rattle.sheet_wire.specs.SheetsBytes.{encode_copy, encode_deletion, encode_move, encode_new};
 ghost use Rattle.sheet_wire.specs.SheetsBytes.{FitsCopy, FitsDeletion, FitsField, FitsMove, FitsNew, IsKnownKeptSheet};
-ghost use Rattle.sheet_wire.specs.TreesBytes.{spell_rename, AreKnownTrees, FitsRename, spell_name_change, FitsNameChange, IsKnownChange};
+ghost use Rattle.sheet_wire.specs.TreesBytes.{encode_rename, AreKnownTrees, FitsRename, encode_name_change, FitsNameChange, IsKnownChange};
 ghost use Rattle.sheet_history.specs.declared.Diff.TheVariants.{Field as FieldDiff};
 
 use crate::sheets::KeptSheetPart;
@@ -22,14 +22,14 @@ use sheet_history::FieldChange;
 use std::alloc::AllocError;
 
 /// Adds the id of a sheet, and what it had before and has after.
-#[tactic(auto, unfolding(crate::specs::ChangeBytes::spell_sheet_change))]
+#[tactic(auto, unfolding(crate::specs::ChangeBytes::encode_sheet_change))]
 pub(crate) fn put_sheet_change<P: Part>(
     out: &mut Vec<u8>,
     sheet: u32,
     old: &P::Value,
     new: &P::Value,
 ) -> Result<(), AllocError>
-    ensures spelled { OnOk result (out.new.items ≡ out.old.items ++ spell_sheet_change P.spelling sheet old.now new.now) }
+    ensures encoded { OnOk result (out.new.items ≡ out.old.items ++ encode_sheet_change P.encoding sheet old.now new.now) }
     ensures fits { OnOk result (P.Known old.now → P.Known new.now → FitsSheetChange P.Fits sheet old.now new.now) }
 {
     out.extend_from_slice(&sheet.to_be_bytes())?;
@@ -43,7 +43,7 @@ pub(crate) fn put_field(
     sheet: u32,
     change: FieldChange,
 ) -> Result<(), AllocError>
-    ensures spelled { OnOk result (out.new.items ≡ out.old.items ++ spell_diff (FieldDiff sheet change)) }
+    ensures encoded { OnOk result (out.new.items ≡ out.old.items ++ encode_diff (FieldDiff sheet change)) }
     ensures fits { OnOk result (FitsField sheet change) }
 {
     match change {
@@ -71,14 +71,14 @@ pub(crate) fn put_field(
 }
 
 /// Adds the id, the index and the name of a new sheet.
-#[tactic(auto, unfolding(crate::specs::SheetsBytes::spell_new))]
+#[tactic(auto, unfolding(crate::specs::SheetsBytes::encode_new))]
 pub(crate) fn put_new(
     out: &mut Vec<u8>,
     sheet: u32,
     index: u32,
     name: &Text,
 ) -> Result<(), AllocError>
-    ensures spelled { OnOk result (out.new.items ≡ out.old.items ++ spell_new sheet index name.now) }
+    ensures encoded { OnOk result (out.new.items ≡ out.old.items ++ encode_new sheet index name.now) }
     ensures fits { OnOk result (FitsNew sheet index name.now) }
 {
     u32::put(out, &sheet)?;
@@ -88,7 +88,7 @@ pub(crate) fn put_new(
 }
 
 /// Adds the id of a sheet, and the id, the index and the name of its copy.
-#[tactic(auto, unfolding(crate::specs::SheetsBytes::spell_copy))]
+#[tactic(auto, unfolding(crate::specs::SheetsBytes::encode_copy))]
 pub(crate) fn put_copy(
     out: &mut Vec<u8>,
     source: u32,
@@ -96,7 +96,7 @@ pub(crate) fn put_copy(
     index: u32,
     name: &Text,
 ) -> Result<(), AllocError>
-    ensures spelled { OnOk result (out.new.items ≡ out.old.items ++ spell_copy source sheet index name.now) }
+    ensures encoded { OnOk result (out.new.items ≡ out.old.items ++ encode_copy source sheet index name.now) }
     ensures fits { OnOk result (FitsCopy source sheet index name.now) }
 {
     u32::put(out, &source)?;
@@ -104,13 +104,13 @@ pub(crate) fn put_copy(
 }
 
 /// Adds the index of a deleted sheet, and what is kept of it.
-#[tactic(auto, unfolding(crate::specs::SheetsBytes::spell_deletion))]
+#[tactic(auto, unfolding(crate::specs::SheetsBytes::encode_deletion))]
 pub(crate) fn put_deletion(
     out: &mut Vec<u8>,
     index: u32,
     kept: &Shared<KeptSheet>,
 ) -> Result<(), AllocError>
-    ensures spelled { OnOk result (out.new.items ≡ out.old.items ++ spell_deletion index kept.now) }
+    ensures encoded { OnOk result (out.new.items ≡ out.old.items ++ encode_deletion index kept.now) }
     ensures fits { OnOk result (IsKnownKeptSheet kept.now → FitsDeletion index kept.now) }
 {
     out.extend_from_slice(&index.to_be_bytes())?;
@@ -118,7 +118,7 @@ pub(crate) fn put_deletion(
 }
 
 /// Adds the id of a renamed sheet, its old name, its new name, and what is kept.
-#[tactic(auto, unfolding(crate::specs::TreesBytes::spell_rename))]
+#[tactic(auto, unfolding(crate::specs::TreesBytes::encode_rename))]
 pub(crate) fn put_rename(
     out: &mut Vec<u8>,
     sheet: u32,
@@ -126,7 +126,7 @@ pub(crate) fn put_rename(
     new: &Text,
     kept: &Shared<KeptTrees>,
 ) -> Result<(), AllocError>
-    ensures spelled { OnOk result (out.new.items ≡ out.old.items ++ spell_rename sheet old.now new.now kept.now) }
+    ensures encoded { OnOk result (out.new.items ≡ out.old.items ++ encode_rename sheet old.now new.now kept.now) }
     ensures fits { OnOk result (AreKnownTrees kept.now → FitsRename sheet old.now new.now kept.now) }
 {
     u32::put(out, &sheet)?;
@@ -137,13 +137,13 @@ pub(crate) fn put_rename(
 }
 
 /// Adds the place of a defined name, the name before and after, and what is kept.
-#[tactic(auto, unfolding(crate::specs::TreesBytes::spell_name_change))]
+#[tactic(auto, unfolding(crate::specs::TreesBytes::encode_name_change))]
 pub(crate) fn put_name_change(
     out: &mut Vec<u8>,
     change: &NameChange,
     kept: &Shared<KeptTrees>,
 ) -> Result<(), AllocError>
-    ensures spelled { OnOk result (out.new.items ≡ out.old.items ++ spell_name_change change.now kept.now) }
+    ensures encoded { OnOk result (out.new.items ≡ out.old.items ++ encode_name_change change.now kept.now) }
     ensures fits { OnOk result (IsKnownChange change.now kept.now → FitsNameChange change.now kept.now) }
 {
     u64::put(out, &change.index)?;
@@ -153,9 +153,9 @@ pub(crate) fn put_name_change(
 }
 
 /// Adds the id of a moved sheet, and the indexes between which it moves.
-#[tactic(auto, unfolding(crate::specs::SheetsBytes::spell_move))]
+#[tactic(auto, unfolding(crate::specs::SheetsBytes::encode_move))]
 pub(crate) fn put_move(out: &mut Vec<u8>, sheet: u32, from: u32, to: u32) -> Result<(), AllocError>
-    ensures spelled { OnOk result (out.new.items ≡ out.old.items ++ spell_move sheet from to) }
+    ensures encoded { OnOk result (out.new.items ≡ out.old.items ++ encode_move sheet from to) }
     ensures fits { OnOk result (FitsMove sheet from to) }
 {
     out.extend_from_slice(&sheet.to_be_bytes())?;

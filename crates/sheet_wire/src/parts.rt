@@ -16,7 +16,7 @@ pub struct DiffPart;
 pub(crate) struct EntryPart;
 
 impl Part for DiffPart {
-    ghost use Rattle.sheet_wire.specs.QueueBytes.{spell_diff, FitsDiff, IsKnownDiff};
+    ghost use Rattle.sheet_wire.specs.QueueBytes.{encode_diff, FitsDiff, IsKnownDiff};
     ghost use Rattle.sheet_wire.specs.laws.Reading.{diff_at};
     ghost use Rattle.sheet_wire.specs.laws.QueueFormats.{diff_format, diff_some};
 
@@ -28,7 +28,7 @@ impl Part for DiffPart {
 
     ghost Fits = { FitsDiff };
 
-    ghost spelling = { spell_diff };
+    ghost encoding = { encode_diff };
 
     ghost reading = { diff_at };
 
@@ -51,7 +51,7 @@ impl Part for DiffPart {
 
 impl Part for EntryPart {
     ghost use Rattle.std.proofs.Common.{arith};
-    ghost use Rattle.sheet_wire.specs.QueueBytes.{spell_entry, FitsEntry, IsKnownEntry};
+    ghost use Rattle.sheet_wire.specs.QueueBytes.{encode_entry, FitsEntry, IsKnownEntry};
     ghost use Rattle.sheet_wire.specs.laws.Reading.{entry_at};
     ghost use Rattle.sheet_wire.specs.laws.QueueFormats.{entry_format};
 
@@ -63,7 +63,7 @@ impl Part for EntryPart {
 
     ghost Fits = { FitsEntry };
 
-    ghost spelling = { spell_entry };
+    ghost encoding = { encode_entry };
 
     ghost reading = { entry_at };
 

@@ -3,7 +3,7 @@
 ghost use Rattle.std.specs.Prelude.{◌≡◌, ◌++◌, OnOk};
 ghost use Rattle.base_values.specs.Answers.{Answers, map_ok};
 ghost use Rattle.sheet_wire.specs.laws.Reading.{rule_diff_at, rule_change_at};
-ghost use Rattle.sheet_wire.specs.RulesBytes.{spell_rule, spell_rule_change, FitsRuleChange, FitsRuleDiff, IsKnownRuleChange};
+ghost use Rattle.sheet_wire.specs.RulesBytes.{encode_rule, encode_rule_change, FitsRuleChange, FitsRuleDiff, IsKnownRuleChange};
 
 use crate::steps::read;
 use base_shared::Shared;
@@ -29,9 +29,9 @@ fn rule_change_at<'a>(
     Ok((RuleChange { index, old, new }, rest))
 }
 
-#[tactic(auto, unfolding(crate::specs::RulesBytes::spell_rule_change))]
+#[tactic(auto, unfolding(crate::specs::RulesBytes::encode_rule_change))]
 fn put_rule_change(out: &mut Vec<u8>, change: &RuleChange) -> Result<(), AllocError>
-    ensures spelled { OnOk result (out.new.items ≡ out.old.items ++ spell_rule_change change.now) }
+    ensures encoded { OnOk result (out.new.items ≡ out.old.items ++ encode_rule_change change.now) }
     ensures fits { OnOk result (IsKnownRuleChange change.now → FitsRuleChange change.now) }
 {
     u64::put(out, &change.index)?;
@@ -45,7 +45,7 @@ fn put_rule_change(out: &mut Vec<u8>, change: &RuleChange) -> Result<(), AllocEr
 pub(crate) struct RuleChangePart;
 
 impl Part for RuleChangePart {
-    ghost use Rattle.sheet_wire.specs.RulesBytes.{spell_rule_change, FitsRuleChange, IsKnownRuleChange};
+    ghost use Rattle.sheet_wire.specs.RulesBytes.{encode_rule_change, FitsRuleChange, IsKnownRuleChange};
     ghost use Rattle.sheet_wire.specs.laws.Reading.{rule_change_at};
     ghost use Rattle.sheet_wire.specs.laws.RulesFormats.{rule_change_format, rule_change_some};
 
@@ -57,7 +57,7 @@ impl Part for RuleChangePart {
 
     ghost Fits = { FitsRuleChange };
 
-    ghost spelling = { spell_rule_change };
+    ghost encoding = { encode_rule_change };
 
     ghost reading = { rule_change_at };
 
@@ -79,13 +79,13 @@ impl Part for RuleChangePart {
 }
 
 /// Adds the id of a sheet, and a change of its conditional rules.
-#[tactic(auto, unfolding(crate::specs::RulesBytes::spell_rule))]
+#[tactic(auto, unfolding(crate::specs::RulesBytes::encode_rule))]
 pub(crate) fn put_rule(
     out: &mut Vec<u8>,
     sheet: u32,
     change: &Shared<RuleChange>,
 ) -> Result<(), AllocError>
-    ensures spelled { OnOk result (out.new.items ≡ out.old.items ++ spell_rule sheet change.now) }
+    ensures encoded { OnOk result (out.new.items ≡ out.old.items ++ encode_rule sheet change.now) }
     ensures fits { OnOk result (IsKnownRuleChange change.now → FitsRuleDiff sheet change.now) }
 {
     out.extend_from_slice(&sheet.to_be_bytes())?;

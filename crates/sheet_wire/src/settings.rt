@@ -3,9 +3,9 @@
 ghost use Rattle.std.specs.Prelude.{◌≡◌, ◌++◌, OnOk};
 ghost use Rattle.base_values.specs.Answers.{Answers, map_ok};
 ghost use Rattle.sheet_history.specs.declared.Diff.TheVariants.{Setting as SettingDiff};
-ghost use Rattle.sheet_wire.specs.QueueBytes.{spell_diff};
+ghost use Rattle.sheet_wire.specs.QueueBytes.{encode_diff};
 ghost use Rattle.sheet_wire.specs.laws.Reading.{locale_diff_at, theme_diff_at, title_diff_at, zone_diff_at, pair_at};
-ghost use Rattle.sheet_wire.specs.SettingBytes.{spell_twice, FitsSetting};
+ghost use Rattle.sheet_wire.specs.SettingBytes.{encode_twice, FitsSetting};
 
 use crate::steps::read;
 use base_values::{EditError, Text};
@@ -16,7 +16,7 @@ use std::alloc::{AllocError, Global};
 
 /// Adds what a setting was and what it is.
 fn put_twice<P: Part>(out: &mut Vec<u8>, old: &P::Value, new: &P::Value) -> Result<(), AllocError>
-    ensures spelled { OnOk result (out.new.items ≡ out.old.items ++ spell_twice P.spelling old.now new.now) }
+    ensures encoded { OnOk result (out.new.items ≡ out.old.items ++ encode_twice P.encoding old.now new.now) }
     ensures fits { OnOk result (P.Known old.now → P.Known new.now → P.Fits old.now × P.Fits new.now) }
 {
     P::put(out, old)?;
@@ -25,7 +25,7 @@ fn put_twice<P: Part>(out: &mut Vec<u8>, old: &P::Value, new: &P::Value) -> Resu
 
 /// Adds a change of a setting, behind the tag of the setting.
 pub(crate) fn put_setting(out: &mut Vec<u8>, change: &SettingChange) -> Result<(), AllocError>
-    ensures spelled { OnOk result (out.new.items ≡ out.old.items ++ spell_diff (SettingDiff change.now)) }
+    ensures encoded { OnOk result (out.new.items ≡ out.old.items ++ encode_diff (SettingDiff change.now)) }
     ensures fits { OnOk result (FitsSetting change.now) }
 {
     match change {

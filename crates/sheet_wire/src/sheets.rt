@@ -2,7 +2,7 @@
 
 ghost use Rattle.std.specs.Prelude.{◌≡◌, ◌++◌, OnOk};
 ghost use Rattle.base_values.specs.Answers.{Answers, map_ok};
-ghost use Rattle.sheet_wire.specs.SheetsBytes.{spell_kept_sheet, FitsKeptSheet, IsKnownKeptSheet};
+ghost use Rattle.sheet_wire.specs.SheetsBytes.{encode_kept_sheet, FitsKeptSheet, IsKnownKeptSheet};
 ghost use Rattle.sheet_wire.specs.laws.Reading.{kept_sheet_at};
 
 use crate::steps::read;
@@ -32,9 +32,9 @@ fn kept_sheet_at<'a>(
     Ok((KeptSheet { sheet, names }, rest))
 }
 
-#[tactic(auto, unfolding(crate::specs::SheetsBytes::spell_kept_sheet))]
+#[tactic(auto, unfolding(crate::specs::SheetsBytes::encode_kept_sheet))]
 fn put_kept_sheet(out: &mut Vec<u8>, kept: &KeptSheet) -> Result<(), AllocError>
-    ensures spelled { OnOk result (out.new.items ≡ out.old.items ++ spell_kept_sheet kept.now) }
+    ensures encoded { OnOk result (out.new.items ≡ out.old.items ++ encode_kept_sheet kept.now) }
     ensures fits { OnOk result (IsKnownKeptSheet kept.now → FitsKeptSheet kept.now) }
 {
     SheetPart::put(out, &kept.sheet)?;
@@ -46,7 +46,7 @@ fn put_kept_sheet(out: &mut Vec<u8>, kept: &KeptSheet) -> Result<(), AllocError>
 pub(crate) struct KeptSheetPart;
 
 impl Part for KeptSheetPart {
-    ghost use Rattle.sheet_wire.specs.SheetsBytes.{spell_kept_sheet, FitsKeptSheet, IsKnownKeptSheet};
+    ghost use Rattle.sheet_wire.specs.SheetsBytes.{encode_kept_sheet, FitsKeptSheet, IsKnownKeptSheet};
     ghost use Rattle.sheet_wire.specs.laws.Reading.{kept_sheet_at};
     ghost use Rattle.sheet_wire.specs.laws.SheetsFormats.{kept_sheet_format, kept_sheet_some};
 
@@ -58,7 +58,7 @@ impl Part for KeptSheetPart {
 
     ghost Fits = { FitsKeptSheet };
 
-    ghost spelling = { spell_kept_sheet };
+    ghost encoding = { encode_kept_sheet };
 
     ghost reading = { kept_sheet_at };
 

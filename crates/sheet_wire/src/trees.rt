@@ -2,7 +2,7 @@
 
 ghost use Rattle.std.specs.Prelude.{◌≡◌, ◌++◌, OnOk};
 ghost use Rattle.base_values.specs.Answers.{Answers, map_ok};
-ghost use Rattle.sheet_wire.specs.TreesBytes.{spell_trees, AreKnownTrees, FitsTrees};
+ghost use Rattle.sheet_wire.specs.TreesBytes.{encode_trees, AreKnownTrees, FitsTrees};
 ghost use Rattle.sheet_wire.specs.laws.Reading.{trees_at};
 
 use crate::steps::read;
@@ -43,9 +43,9 @@ fn trees_at<'a>(
     Ok((kept, rest))
 }
 
-#[tactic(auto, unfolding(crate::specs::TreesBytes::spell_trees))]
+#[tactic(auto, unfolding(crate::specs::TreesBytes::encode_trees))]
 fn put_trees(out: &mut Vec<u8>, kept: &KeptTrees) -> Result<(), AllocError>
-    ensures spelled { OnOk result (out.new.items ≡ out.old.items ++ spell_trees kept.now) }
+    ensures encoded { OnOk result (out.new.items ≡ out.old.items ++ encode_trees kept.now) }
     ensures fits { OnOk result (AreKnownTrees kept.now → FitsTrees kept.now) }
 {
     FormulasPart::put(out, &kept.formulas)?;
@@ -59,7 +59,7 @@ fn put_trees(out: &mut Vec<u8>, kept: &KeptTrees) -> Result<(), AllocError>
 pub(crate) struct KeptTreesPart;
 
 impl Part for KeptTreesPart {
-    ghost use Rattle.sheet_wire.specs.TreesBytes.{spell_trees, AreKnownTrees, FitsTrees};
+    ghost use Rattle.sheet_wire.specs.TreesBytes.{encode_trees, AreKnownTrees, FitsTrees};
     ghost use Rattle.sheet_wire.specs.laws.Reading.{trees_at};
     ghost use Rattle.sheet_wire.specs.laws.TreesFormats.{trees_format, trees_some};
 
@@ -71,7 +71,7 @@ impl Part for KeptTreesPart {
 
     ghost Fits = { FitsTrees };
 
-    ghost spelling = { spell_trees };
+    ghost encoding = { encode_trees };
 
     ghost reading = { trees_at };
 

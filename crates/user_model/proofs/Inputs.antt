@@ -20,7 +20,7 @@ use Rattle.edit_plans.specs.Links.{link_set}
 use Rattle.open_book.specs.Document.{Document}
 use Rattle.open_book.specs.Machine.{State, edit_of, edited}
 use Rattle.user_model.specs.Places.{array_goes, input_goes, link_goes}
-use Rattle.open_book.specs.Stands.{StandsFor, Moves, Turns}
+use Rattle.open_book.specs.Stands.{StandsFor, Moves, MovesOrNoMemory}
 
 -- an edit of the sheet at an index that goes to a place, or to a rectangle, is refused where that is, and else accepted
 module _ {T : Type 0} (index : ℕ) (book : Book) (goes : Sheet → Result T EditError) (put : Sheet → T → Sheet) where
@@ -128,12 +128,12 @@ short_moves edit doc s stands loud is = record {
 
 -- an edit that is refused before its plan is made, whose last test takes memory
 pub refused_turns : (edit : Edit) (doc : Document) (s : State) (error : EditError) → StandsFor doc s → is_silent edit doc.book ≡ false → changed edit doc.book ≡ Err error
-    → Turns {T = Unit {0}} (Err error) doc (edit_of edit s)
+    → MovesOrNoMemory {T = Unit {0}} (Err error) doc (edit_of edit s)
 refused_turns edit doc s error stands loud is = record {
   done = tt;
   refused = λ other. edit_refused edit s error (heard_there edit doc s stands loud) (subst (λ (d : Document). changed edit d.book ≡ Err error) stands.document is);
 }
 
 -- and one that is out of memory
-pub short_turns : (error : EditError) (doc : Document) (expected : Result State EditError) → error ≡ NoMemory → Turns {T = Unit {0}} (Err error) doc expected
+pub short_turns : (error : EditError) (doc : Document) (expected : Result State EditError) → error ≡ NoMemory → MovesOrNoMemory {T = Unit {0}} (Err error) doc expected
 short_turns error doc expected short = record { done = tt; refused = λ other. absurd (other short) }

@@ -41,7 +41,7 @@ sound_spoken s sound language = record {
   past = sound.past;
   undone = sound.undone;
   carries = sound.carries;
-  spellable = sound.spellable;
+  encodable = sound.encodable;
   stale_undo = sound.stale_undo;
   stale_redo = sound.stale_redo;
 }

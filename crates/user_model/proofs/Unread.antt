@@ -40,7 +40,7 @@ parse_no_queue bytes error refused is =
     let same : error ≡ ParseDiffs = cc in
     (refused (λ short. let never : ParseDiffs ≡ NoMemory = sym same ∙ short in cc)).1
 
--- what was read is the queue that was spelled
+-- what was read is the queue that was encoded
 pub read_leaves : (result : Result (Unit {0}) EditError) (new : Document) (queue entries : List QueueDiffs) (s : State)
     → Answers (Ok queue) (Ok entries) → Leaves result new queue s → Leaves result new entries s
 read_leaves result new queue entries s again leaves = let same : queue ≡ entries = cc in subst (λ q. Leaves result new q s) same leaves

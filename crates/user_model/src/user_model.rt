@@ -19,8 +19,8 @@ ghost use Rattle.user_model.specs.Reading.{content_text, link_to, rectangle, rec
 ghost use Rattle.user_model.specs.Typing.{array_typed, text_typed};
 ghost use Rattle.user_model.specs.Structure.{structure_at};
 ghost use Rattle.open_book.specs.Machine.{State, begun, edit_of, undo_of, redo_of, synced_of, sync_bytes};
-ghost use Rattle.open_book.specs.Sound.{CarriesOn, WhereCarried, WhereSpelled};
-ghost use Rattle.open_book.specs.Stands.{StandsFor, IsReached, IsAnyPlan, IsPlanOf, IsSeenPlan, IsAnySeenPlan, Leaves, Moves, OnStates, Opens, Steps, Turns};
+ghost use Rattle.open_book.specs.Sound.{CarriesOn, WhereCarried, WhereEncoded};
+ghost use Rattle.open_book.specs.Stands.{StandsFor, IsReached, IsAnyPlan, IsPlanOf, IsSeenPlan, IsAnySeenPlan, Leaves, Moves, OnStates, Opens, Steps, MovesOrNoMemory};
 ghost use Rattle.open_book.specs.Values.{IsMade, LeavesMade, Makes, is_none_left};
 
 mod attributes;
@@ -621,7 +621,7 @@ impl<R: Recalc + Drop> UserModel<R> {
     /// model.redo()?;
     /// ```
     pub fn undo(&mut self) -> Result<(), EditError>
-        ensures next { OnStates self.old.document (λ state. Turns result self.new.document (undo_of state)) }
+        ensures next { OnStates self.old.document (λ state. MovesOrNoMemory result self.new.document (undo_of state)) }
         ensures output { OnOk result (Makes (is_none_left self.old.document.undo) R.Fits self.old self.new) }
         ensures err { OnErr result (self.new ≡ self.old) }
         ensures paused { self.new.paused ≡ self.old.paused }
@@ -637,7 +637,7 @@ impl<R: Recalc + Drop> UserModel<R> {
     /// model.redo()?;
     /// ```
     pub fn redo(&mut self) -> Result<(), EditError>
-        ensures next { OnStates self.old.document (λ state. Turns result self.new.document (redo_of state)) }
+        ensures next { OnStates self.old.document (λ state. MovesOrNoMemory result self.new.document (redo_of state)) }
         ensures output { OnOk result (Makes (is_none_left self.old.document.redo) R.Fits self.old self.new) }
         ensures err { OnErr result (self.new ≡ self.old) }
         ensures paused { self.new.paused ≡ self.old.paused }
@@ -668,7 +668,7 @@ impl<R: Recalc + Drop> UserModel<R> {
         Ok(bytes)
     }
 
-    /// Follows the entries that the bytes of another copy's queue spell, one by one. The stacks and
+    /// Follows the entries that the bytes of another copy's queue encode, one by one. The stacks and
     /// the queue stay.
     ///
     /// `ParseDiffs` exactly where the bytes are no queue's, and nothing has changed then. `DiffRefused`
@@ -681,12 +681,12 @@ impl<R: Recalc + Drop> UserModel<R> {
     /// second.apply_external_diffs(&bytes)?;
     /// ```
     pub fn apply_external_diffs(&mut self, bytes: &[u8]) -> Result<(), EditError>
-        ensures next { OnStates self.old.document (λ state. WhereSpelled bytes.now (λ entries. Leaves result self.new.document entries state)) }
+        ensures next { OnStates self.old.document (λ state. WhereEncoded bytes.now (λ entries. Leaves result self.new.document entries state)) }
         ensures led { WhereCarried bytes.now self.old.document.book (λ later. OnOk result (self.new.document.book ≡ later)) }
         ensures carried { WhereCarried bytes.now self.old.document.book (λ later. IsOkUnless result NoMemory) }
-        ensures unspelled { IsNoQueue bytes.now → Edits result self.old self.new (Err ParseDiffs) }
+        ensures unencoded { IsNoQueue bytes.now → Edits result self.old self.new (Err ParseDiffs) }
         ensures parsed { result ≡ Err ParseDiffs → IsNoQueue bytes.now }
-        ensures output { WhereSpelled bytes.now (λ entries. LeavesMade result entries R.Fits self.old self.new) }
+        ensures output { WhereEncoded bytes.now (λ entries. LeavesMade result entries R.Fits self.old self.new) }
         ensures made_or_same { IsMade R.Fits self.new ⊎ (self.new ≡ self.old) }
         ensures paused { self.new.paused ≡ self.old.paused }
     {

@@ -1,4 +1,4 @@
--- What is spelled is read again, whatever bytes follow: the law of each part of a format.
+-- What is encoded is read again, whatever bytes follow: the law of each part of a format.
 use Rattle.std.proofs.Common.{◌≡◌, nat_eq, ℕ, suc, ◌^◌, ◌<◌, ◌≤◌, ltb, Bool, true, false, List, [], ◌∷◌, ◌++◌, length, Option, Some, None, Ok, refl, sym, ap, ◌∙◌, append_assoc, arith}
 use Rattle.std.specs.Prelude.{IfSome, FitsSigned}
 use Rattle.std.specs.Cmp.Lexicographic.{pointwise}
@@ -13,14 +13,14 @@ use mir.Val.{bits}
 use Rattle.std.proofs.Math.Facts.{Fits-of_z}
 use Rattle.base_wire.specs.laws.Sixteen.{from_be_bytes-to_be_bytes_16}
 use Rattle.base_wire.specs.laws.Reading.{Reader, after, whole, map_at, ◌⊗◌, check_at, byte_at, decoded, coded_at, code_at, number_at, signed_at, text_at, option_at, many_at, list_at}
-use Rattle.base_wire.specs.Spelling.{spell_signed, spell_code, spell_text, spell_option, spell_list, spell_both, Any, Both, FitsText, FitsItems}
+use Rattle.base_wire.specs.Encoding.{encode_signed, encode_code, encode_text, encode_option, encode_list, encode_both, Any, Both, FitsText, FitsItems}
 
--- what is spelled is read again
-pub record ReadsAgain {A : Type 0} (Fits : A → Type 0) (spell : A → List ℕ) (read : Reader A) : Type 0 where
-  pub again : (x : A) (rest : List ℕ) → Fits x → read (spell x ++ rest) ≡ Ok (x, rest)
+-- what is encoded is read again
+pub record ReadsAgain {A : Type 0} (Fits : A → Type 0) (encode : A → List ℕ) (read : Reader A) : Type 0 where
+  pub again : (x : A) (rest : List ℕ) → Fits x → read (encode x ++ rest) ≡ Ok (x, rest)
 
 module _ {A B : Type 0} {F : A → Type 0} {G : B → Type 0} {s : A → List ℕ} {t : B → List ℕ} {r : Reader A} {q : Reader B} where
-  pub both_again : ReadsAgain F s r → ReadsAgain G t q → ReadsAgain (Both F G) (spell_both s t) (r ⊗ q)
+  pub both_again : ReadsAgain F s r → ReadsAgain G t q → ReadsAgain (Both F G) (encode_both s t) (r ⊗ q)
   both_again first second = record {
     again = λ x rest fits.
         ap (r ⊗ q) (append_assoc (s x.0) (t x.1) rest) ∙ rw (first.again x.0 (t x.1 ++ rest) fits.0, second.again x.1 rest fits.1) refl;
@@ -40,10 +40,10 @@ check_again law test = record {
 pub byte_again : ReadsAgain (λ b. b < 2 ^ 8) (λ b. b ∷ []) byte_at
 byte_again = record { again = λ b rest fits. refl }
 
-pub coded_again : {A : Type 0} (code_of : A → ℕ) (value_of : ℕ → Option A) → ((x : A) → value_of (code_of x) ≡ Some x) → ReadsAgain Any (spell_code code_of) (coded_at value_of)
+pub coded_again : {A : Type 0} (code_of : A → ℕ) (value_of : ℕ → Option A) → ((x : A) → value_of (code_of x) ≡ Some x) → ReadsAgain Any (encode_code code_of) (coded_at value_of)
 coded_again code_of value_of known = record { again = λ x rest fits. rw (known x) refl }
 
-pub code_again : {A : Type 0} (code_of : A → ℕ) (values : List A) → ((x : A) → decoded code_of values (code_of x) ≡ Some x) → ReadsAgain Any (spell_code code_of) (code_at code_of values)
+pub code_again : {A : Type 0} (code_of : A → ℕ) (values : List A) → ((x : A) → decoded code_of values (code_of x) ≡ Some x) → ReadsAgain Any (encode_code code_of) (code_at code_of values)
 code_again code_of values = coded_again code_of (decoded code_of values)
 
 -- ---- numbers
@@ -69,14 +69,14 @@ number_again {w} wide = record {
       rw (long, take_at (to_be_bytes w n) rest (byte_len w) len, drop_at (to_be_bytes w n) rest (byte_len w) len, wide.again n lt) refl;
 }
 
-pub signed_again : {w : Width} → IsWide w → ReadsAgain (FitsSigned w) (spell_signed w) (signed_at w)
+pub signed_again : {w : Width} → IsWide w → ReadsAgain (FitsSigned w) (encode_signed w) (signed_at w)
 signed_again {w} wide = record {
   again = λ z rest fits. rw ((number_again wide).again (cast_unsigned w z) rest (Fits-of_z fits).fits) (ap (λ x. Ok (x, rest)) (to_z-of_z w z fits));
 }
 
 -- ---- texts
 
-pub text_again : ReadsAgain FitsText spell_text text_at
+pub text_again : ReadsAgain FitsText encode_text text_at
 unfolding text_at
 text_again = record {
   again = λ text rest fits.
@@ -94,10 +94,10 @@ items_within s some [] = omega arith
 items_within s some (x ∷ xs) = omega (arith, some x, items_within s some xs, length-append (s x) (flat_map s xs))
 
 module _ {A : Type 0} {F : A → Type 0} {s : A → List ℕ} {r : Reader A} where
-  pub option_again : ReadsAgain F s r → ReadsAgain (λ o. IfSome o F) (spell_option s) (option_at r)
+  pub option_again : ReadsAgain F s r → ReadsAgain (λ o. IfSome o F) (encode_option s) (option_at r)
   option_again law = record { again = one }
     where
-      one : (o : Option A) (rest : List ℕ) → IfSome o F → option_at r (spell_option s o ++ rest) ≡ Ok (o, rest)
+      one : (o : Option A) (rest : List ℕ) → IfSome o F → option_at r (encode_option s o ++ rest) ≡ Ok (o, rest)
       one None rest fits = refl
       one (Some x) rest fits = rw (law.again x rest fits) refl
 
@@ -108,10 +108,10 @@ module _ {A : Type 0} {F : A → Type 0} {s : A → List ℕ} {r : Reader A} whe
       let parts : flat_map s (x ∷ xs) ++ rest ≡ s x ++ (flat_map s xs ++ rest) = append_assoc (s x) (flat_map s xs) rest in
       ap (many_at r (suc (length xs))) parts ∙ rw (law.again x (flat_map s xs ++ rest) fits.0, many_again law xs rest fits.1) refl
 
-  pub list_again : ReadsAgain F s r → ((x : A) → 1 ≤ length (s x)) → ReadsAgain (FitsItems F) (spell_list s) (list_at r)
+  pub list_again : ReadsAgain F s r → ((x : A) → 1 ≤ length (s x)) → ReadsAgain (FitsItems F) (encode_list s) (list_at r)
   list_again law some = record {
     again = λ xs rest fits.
-        let parts : spell_list s xs ++ rest ≡ to_be_bytes w64 (length xs) ++ (flat_map s xs ++ rest) = append_assoc (to_be_bytes w64 (length xs)) (flat_map s xs) rest in
+        let parts : encode_list s xs ++ rest ≡ to_be_bytes w64 (length xs) ++ (flat_map s xs ++ rest) = append_assoc (to_be_bytes w64 (length xs)) (flat_map s xs) rest in
         let long : ltb (length (flat_map s xs ++ rest)) (length xs) ≡ false = le-ltb _ _ (omega (arith, items_within s some xs, length-append (flat_map s xs) rest)) in
         ap (list_at r) parts ∙ rw ((number_again wide64).again (length xs) (flat_map s xs ++ rest) fits.short, long) (many_again law xs rest fits.each);
   }

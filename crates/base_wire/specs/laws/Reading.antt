@@ -12,7 +12,7 @@ use Rattle.base_tables.specs.declared.Error.{Error}
 use Rattle.base_tables.specs.Error.{error_of_code}
 use Rattle.base_decimal.specs.declared.Decimal.{Decimal}
 use Rattle.base_decimal.specs.Canonical.{is_canonical}
-use Rattle.base_wire.specs.Spelling.{boolean_code}
+use Rattle.base_wire.specs.Encoding.{boolean_code}
 
 abbrev pub Reader : Type 0 → Type 0
 Reader A = List ℕ → Read A
@@ -22,7 +22,7 @@ abbrev pub ◌>>=◌ : {A B : Type 0} → Result A EditError → (A → Result B
 (Ok x) >>= f = f x
 (Err e) >>= f = Err e
 
--- no value is spelled so
+-- no value is encoded so
 abbrev pub refused : {A : Type 0} → Reader A
 refused bytes = Err ParseDiffs
 
@@ -148,6 +148,6 @@ error_at = coded_at error_of_code
 abbrev pub decimal_made : ℤ × ℕ → Decimal
 decimal_made x = record { mantissa = x.0; places = x.1 }
 
--- only canonical numbers are spelled
+-- only canonical numbers are encoded
 unfoldable pub decimal_at : Reader Decimal
 decimal_at = check_at is_canonical (map_at decimal_made (signed_at w128 ⊗ byte_at))

@@ -1,4 +1,4 @@
--- What is spelled of styles and cells is read again.
+-- What is encoded of styles and cells is read again.
 use Rattle.std.proofs.Common.{◌≡◌, ℕ, List, ◌++◌, Option, Some, None, Ok, refl}
 use Rattle.std.specs.Prelude.{IfSome, FitsSigned}
 use Rattle.std.specs.Int.{w32}
@@ -17,15 +17,15 @@ use Rattle.base_styles.specs.declared.VerticalAlignment.TheVariants as vertical
 use Rattle.cell_content.specs.declared.Content.{Content}
 use Rattle.cell_content.specs.declared.Content.TheVariants.{Empty, Number, Boolean, Error as ErrorValue, Text, Formula, Dynamic, Array}
 use Rattle.base_wire.specs.laws.Reading.{decoded, ◌⊗◌, signed_at}
-use Rattle.formula_wire.specs.NodeBytes.{spell_node}
+use Rattle.formula_wire.specs.NodeBytes.{encode_node}
 use Rattle.formula_wire.specs.laws.Reading.{node_at}
 use Rattle.formula_wire.specs.Carried.{FitsNode}
-use Rattle.base_wire.specs.Spelling.{Both, spell_both, spell_option, spell_signed}
-use Rattle.cell_wire.specs.StyleBytes.{spell_color, FitsColor, spell_font, FitsFont, border_code, spell_border_item, FitsBorderItem, spell_border, FitsBorder, horizontal_code, vertical_code, spell_alignment, spell_style, FitsStyle}
+use Rattle.base_wire.specs.Encoding.{Both, encode_both, encode_option, encode_signed}
+use Rattle.cell_wire.specs.StyleBytes.{encode_color, FitsColor, encode_font, FitsFont, border_code, encode_border_item, FitsBorderItem, encode_border, FitsBorder, horizontal_code, vertical_code, encode_alignment, encode_style, FitsStyle}
 use Rattle.cell_wire.specs.laws.Reading.{color_at, font_made, font_at, border_styles, border_item_made, border_item_at, border_made, side_at, border_at, horizontals, verticals, alignment_made, alignment_at, alignment_option_at, style_made, style_at, position_made, position_at, content_at, cell_made, cell_at}
-use Rattle.cell_wire.specs.CellBytes.{spell_position, FitsPosition, spell_content, FitsContent, spell_cell, FitsCell}
+use Rattle.cell_wire.specs.CellBytes.{encode_position, FitsPosition, encode_content, FitsContent, encode_cell, FitsCell}
 use Rattle.base_wire.specs.laws.Again.{ReadsAgain, both_again, map_again, code_again, wide32, signed_again, text_again, option_again}
-use Rattle.base_wire.specs.Spelling.{Any}
+use Rattle.base_wire.specs.Encoding.{Any}
 use Rattle.base_wire.specs.laws.Parts.{boolean_again, error_again, decimal_again}
 use Rattle.formula_wire.specs.laws.NodeLaws.{node_again}
 
@@ -45,18 +45,18 @@ theme_known Accent6 = refl
 theme_known Hyperlink = refl
 theme_known FollowedHyperlink = refl
 
-pub color_again : ReadsAgain FitsColor spell_color color_at
+pub color_again : ReadsAgain FitsColor encode_color color_at
 unfolding color_at
 color_again = record { again = one }
   where
-    one : (x : Color) (rest : List ℕ) → FitsColor x → color_at (spell_color x ++ rest) ≡ Ok (x, rest)
+    one : (x : Color) (rest : List ℕ) → FitsColor x → color_at (encode_color x ++ rest) ≡ Ok (x, rest)
     one NoColor rest fits = refl
     one (Rgb red green blue) rest fits = refl
     one (Theme theme) rest fits = rw (theme_known theme) refl
 
 -- ---- fonts
 
-font_again : ReadsAgain FitsFont spell_font font_at
+font_again : ReadsAgain FitsFont encode_font font_at
 unfolding font_at
 font_again = record {
   again = λ x rest fits.
@@ -77,7 +77,7 @@ border_known Medium = refl
 border_known Thick = refl
 border_known Double = refl
 
-pub border_item_again : ReadsAgain FitsBorderItem spell_border_item border_item_at
+pub border_item_again : ReadsAgain FitsBorderItem encode_border_item border_item_at
 unfolding border_item_at
 border_item_again = record {
   again = λ x rest fits.
@@ -85,11 +85,11 @@ border_item_again = record {
       border_item_made (λ item. (item.style, item.color)) (λ y. refl)).again x rest (tt, fits);
 }
 
-side_again : ReadsAgain (λ side. IfSome side FitsBorderItem) (spell_option spell_border_item) side_at
+side_again : ReadsAgain (λ side. IfSome side FitsBorderItem) (encode_option encode_border_item) side_at
 unfolding side_at
 side_again = option_again border_item_again
 
-border_again : ReadsAgain FitsBorder spell_border border_at
+border_again : ReadsAgain FitsBorder encode_border border_at
 unfolding border_at
 border_again = record {
   again = λ x rest fits.
@@ -116,7 +116,7 @@ vertical_known vertical.Distributed = refl
 vertical_known vertical.Justify = refl
 vertical_known vertical.Top = refl
 
-pub alignment_again : ReadsAgain Any spell_alignment alignment_at
+pub alignment_again : ReadsAgain Any encode_alignment alignment_at
 unfolding alignment_at
 alignment_again = record {
   again = λ x rest fits.
@@ -128,13 +128,13 @@ if_any : {A : Type 0} (o : Option A) → IfSome o Any
 if_any None = tt
 if_any (Some x) = tt
 
-alignment_option_again : ReadsAgain Any (spell_option spell_alignment) alignment_option_at
+alignment_option_again : ReadsAgain Any (encode_option encode_alignment) alignment_option_at
 unfolding alignment_option_at
 alignment_option_again = record { again = λ x rest fits. (option_again alignment_again).again x rest (if_any x) }
 
 -- ---- styles
 
-pub style_again : ReadsAgain FitsStyle spell_style style_at
+pub style_again : ReadsAgain FitsStyle encode_style style_at
 unfolding style_at
 style_again = record {
   again = λ x rest fits.
@@ -144,32 +144,32 @@ style_again = record {
 
 -- ---- cells
 
-pub position_again : ReadsAgain FitsPosition spell_position position_at
-unfolding position_at spell_position
+pub position_again : ReadsAgain FitsPosition encode_position position_at
+unfolding position_at encode_position
 position_again = record {
   again = λ x rest fits.
       (map_again (both_again (signed_again wide32) (signed_again wide32))
       position_made (λ place. (place.row, place.column)) (λ y. refl)).again x rest (fits.row, fits.column);
 }
 
-array_parts_again : ReadsAgain (Both FitsNode (Both (FitsSigned w32) (FitsSigned w32))) (spell_both spell_node (spell_both (spell_signed w32) (spell_signed w32))) (node_at ⊗ signed_at w32 ⊗ signed_at w32)
+array_parts_again : ReadsAgain (Both FitsNode (Both (FitsSigned w32) (FitsSigned w32))) (encode_both encode_node (encode_both (encode_signed w32) (encode_signed w32))) (node_at ⊗ signed_at w32 ⊗ signed_at w32)
 array_parts_again = both_again node_again (both_again (signed_again wide32) (signed_again wide32))
 
-pub content_again : ReadsAgain FitsContent spell_content content_at
+pub content_again : ReadsAgain FitsContent encode_content content_at
 unfolding content_at
 content_again = record { again = one }
   where
-    one : (x : Content) (rest : List ℕ) → FitsContent x → content_at (spell_content x ++ rest) ≡ Ok (x, rest)
+    one : (x : Content) (rest : List ℕ) → FitsContent x → content_at (encode_content x ++ rest) ≡ Ok (x, rest)
     one Empty rest fits = refl
     one (Number number) rest fits = rw (decimal_again.again number rest fits.rest) refl
     one (Boolean value) rest fits = rw (boolean_again.again value rest tt) refl
     one (ErrorValue error) rest fits = rw (error_again.again error rest tt) refl
     one (Text text) rest fits = rw (text_again.again text rest fits.rest) refl
-    one (Formula tree) rest fits = rw (append-nil (spell_node tree), node_again.again tree rest fits.tree) refl
-    one (Dynamic tree) rest fits = rw (append-nil (spell_node tree), node_again.again tree rest fits.tree) refl
+    one (Formula tree) rest fits = rw (append-nil (encode_node tree), node_again.again tree rest fits.tree) refl
+    one (Dynamic tree) rest fits = rw (append-nil (encode_node tree), node_again.again tree rest fits.tree) refl
     one (Array tree width height) rest fits = rw (array_parts_again.again (tree, (width, height)) rest (fits.tree, (fits.rest.width, fits.rest.height))) refl
 
-pub cell_again : ReadsAgain FitsCell spell_cell cell_at
+pub cell_again : ReadsAgain FitsCell encode_cell cell_at
 unfolding cell_at
 cell_again = record {
   again = λ x rest fits.

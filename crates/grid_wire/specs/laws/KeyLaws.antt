@@ -11,14 +11,14 @@ use Rattle.base_values.specs.declared.Position.{Position}
 use Rattle.base_values.specs.Places.{IsLine, IsPlace, is_line, position_cmp, is_place}
 use Rattle.base_values.specs.laws.Places.{position_total, exact_positions}
 use Rattle.base_wire.specs.laws.Reading.{Reader}
-use Rattle.base_wire.specs.Spelling.{spell_signed}
+use Rattle.base_wire.specs.Encoding.{encode_signed}
 use Rattle.base_wire.specs.laws.Format.{Format}
 use Rattle.base_wire.specs.laws.Formats.{check_format}
 use Rattle.base_wire.specs.laws.Parts.{signed_format}
-use Rattle.base_wire.specs.laws.Spelled.{fits_otherwise}
-use Rattle.cell_wire.specs.CellBytes.{spell_position, FitsPosition}
+use Rattle.base_wire.specs.laws.Encoded.{fits_otherwise}
+use Rattle.cell_wire.specs.CellBytes.{encode_position, FitsPosition}
 use Rattle.cell_wire.specs.laws.Formats.{position_format, position_some}
-use Rattle.map_wire.specs.MapBytes.{spell_map, FitsMap}
+use Rattle.map_wire.specs.MapBytes.{encode_map, FitsMap}
 use Rattle.map_wire.specs.laws.MapLaws.{map_format}
 use Rattle.grid_wire.specs.laws.Reading.{place_at, axis_line_at, place_map_at, axis_map_at}
 
@@ -26,7 +26,7 @@ use Rattle.grid_wire.specs.laws.Reading.{place_at, axis_line_at, place_map_at, a
 pub alike_format : {A : Type 0} {F G : A → Type 0} {s : A → List ℕ} {r : Reader A} → ((x : A) → F x → G x) → ((x : A) → G x → F x) → Format F s r → Format G s r
 alike_format forth back law = record {
   again = record { again = λ x rest fits. law.again.again x rest (back x fits) };
-  spelled = fits_otherwise forth law.spelled;
+  encoded = fits_otherwise forth law.encoded;
   plain = law.plain;
 }
 
@@ -42,7 +42,7 @@ line_fits : (last line : ℤ) → last ≤ℤ pos 1048576 → IsLine last line �
 line_fits last (pos n) high inside = record { sfits = omega (arith, ints) }
 line_fits last (negsuc n) high inside = absurd (omega (arith, ints))
 
-pub axis_line_format : (last : ℤ) → last ≤ℤ pos 1048576 → Format (IsLine last) (spell_signed w32) (axis_line_at last)
+pub axis_line_format : (last : ℤ) → last ≤ℤ pos 1048576 → Format (IsLine last) (encode_signed w32) (axis_line_at last)
 unfolding axis_line_at
 axis_line_format last high =
     alike_format (λ line fits. line_inside last line fits.1) (λ line inside. (line_fits last line high inside, line_passes last line inside)) (check_format signed_format (is_line last))
@@ -63,17 +63,17 @@ place_fits place inside = record {
   column = line_fits (pos 16384) place.column (search rules) inside.1;
 }
 
-pub place_format : Format IsPlace spell_position place_at
+pub place_format : Format IsPlace encode_position place_at
 unfolding place_at
 place_format = alike_format (λ place fits. place_inside place fits.1) (λ place inside. (place_fits place inside, place_passes place inside)) (check_format position_format is_place)
 
 -- ---- maps
 
 module _ {X : Type 0} {G : X → Type 0} {t : X → List ℕ} {n : Reader X} where
-  pub place_map_format : Format G t n → Format (FitsMap {order = position_cmp} IsPlace G) (spell_map spell_position t) (place_map_at n)
+  pub place_map_format : Format G t n → Format (FitsMap {order = position_cmp} IsPlace G) (encode_map encode_position t) (place_map_at n)
   unfolding place_map_at
   place_map_format value = map_format position_total exact_positions place_format value position_some (λ m. m) (λ m. m) (λ m. refl) (λ m. refl)
 
-  pub axis_map_format : (last : ℤ) → last ≤ℤ pos 1048576 → Format G t n → Format (FitsMap {order = int_cmp} (IsLine last) G) (spell_map (spell_signed w32) t) (axis_map_at last n)
+  pub axis_map_format : (last : ℤ) → last ≤ℤ pos 1048576 → Format G t n → Format (FitsMap {order = int_cmp} (IsLine last) G) (encode_map (encode_signed w32) t) (axis_map_at last n)
   unfolding axis_map_at
   axis_map_format last high value = map_format int_cmp_total exact_signed (axis_line_format last high) value (λ line. omega arith) (λ m. m) (λ m. m) (λ m. refl) (λ m. refl)

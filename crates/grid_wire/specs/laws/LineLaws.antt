@@ -5,13 +5,13 @@ use Rattle.std.specs.Prelude.{not}
 use Rattle.std.specs.Int.{w32}
 use Rattle.sheet_grid.specs.Lines.{is_plain}
 use Rattle.sheet_grid.specs.declared.LineAttr.{LineAttr}
-use Rattle.base_wire.specs.Spelling.{spell_signed, spell_code, boolean_code, spell_option}
+use Rattle.base_wire.specs.Encoding.{encode_signed, encode_code, boolean_code, encode_option}
 use Rattle.base_wire.specs.laws.Format.{Format, option_format}
 use Rattle.base_wire.specs.laws.Formats.{both_format, check_format, made_format}
 use Rattle.base_wire.specs.laws.Parts.{signed_format, boolean_format, option_some}
-use Rattle.cell_wire.specs.StyleBytes.{spell_style}
+use Rattle.cell_wire.specs.StyleBytes.{encode_style}
 use Rattle.cell_wire.specs.laws.Formats.{style_format}
-use Rattle.grid_wire.specs.LineBytes.{spell_line, FitsLine}
+use Rattle.grid_wire.specs.LineBytes.{encode_line, FitsLine}
 use Rattle.grid_wire.specs.laws.Reading.{line_made, size_at, own_style_at, line_at}
 
 not_plain : (b : Bool) → b ≡ false → not b ≡ true
@@ -22,12 +22,12 @@ plain_not : (b : Bool) → not b ≡ true → b ≡ false
 plain_not true h = cc
 plain_not false h = refl
 
-pub line_format : Format FitsLine spell_line line_at
+pub line_format : Format FitsLine encode_line line_at
 unfolding line_at size_at own_style_at
 line_format =
     made_format (check_format (both_format (option_format signed_format) (both_format (option_format style_format) boolean_format)) (λ x. not (is_plain (line_made x)))) line_made (λ attr. (attr.size, (attr.style, attr.hidden)))
     (λ attr fits. (refl, ((fits.size, (fits.style, tt)), not_plain (is_plain attr) fits.own)))
     (λ x fits. (refl, record { size = fits.0.0; style = fits.0.1.0; own = plain_not (is_plain (line_made x)) fits.1 }))
 
-pub line_some : (attr : LineAttr) → 1 ≤ length (spell_line attr)
-line_some attr = omega (arith, option_some (spell_signed w32) attr.size, length-append (spell_option (spell_signed w32) attr.size) (spell_option spell_style attr.style ++ spell_code boolean_code attr.hidden))
+pub line_some : (attr : LineAttr) → 1 ≤ length (encode_line attr)
+line_some attr = omega (arith, option_some (encode_signed w32) attr.size, length-append (encode_option (encode_signed w32) attr.size) (encode_option encode_style attr.style ++ encode_code boolean_code attr.hidden))

@@ -59,7 +59,7 @@ size_at = option_at (signed_at w32)
 unfoldable pub own_style_at : Reader (Option Style)
 own_style_at = option_at style_at
 
--- a line that has nothing of its own is not spelled
+-- a line that has nothing of its own is not encoded
 unfoldable pub line_at : Reader LineAttr
 line_at = map_at line_made (check_at (λ x. not (is_plain (line_made x))) (size_at ⊗ own_style_at ⊗ boolean_at))
 

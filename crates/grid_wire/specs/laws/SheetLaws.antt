@@ -4,18 +4,18 @@ use Rattle.std.specs.Int.{w32}
 use Rattle.std.specs.Ordering.{int_cmp}
 use Rattle.base_values.specs.Places.{IsPlace, IsRow, IsColumn, position_cmp}
 use Rattle.sheet_grid.specs.Sheet.{Sheet}
-use Rattle.base_wire.specs.Spelling.{spell_signed}
+use Rattle.base_wire.specs.Encoding.{encode_signed}
 use Rattle.base_wire.specs.laws.Format.{Format}
 use Rattle.base_wire.specs.laws.Formats.{both_format, made_format}
 use Rattle.base_wire.specs.laws.Parts.{boolean_format, short_format, signed_format, text_format}
-use Rattle.map_wire.specs.MapBytes.{spell_map, FitsMap}
-use Rattle.cell_wire.specs.CellBytes.{spell_position, spell_cell, FitsCell}
-use Rattle.cell_wire.specs.LinkBytes.{spell_link, FitsLink}
+use Rattle.map_wire.specs.MapBytes.{encode_map, FitsMap}
+use Rattle.cell_wire.specs.CellBytes.{encode_position, encode_cell, FitsCell}
+use Rattle.cell_wire.specs.LinkBytes.{encode_link, FitsLink}
 use Rattle.cell_wire.specs.laws.Formats.{color_format, cell_format}
 use Rattle.cell_wire.specs.laws.MergeLaws.{link_format, merges_format}
 use Rattle.rule_wire.specs.laws.FormattingLaws.{formattings_format}
-use Rattle.grid_wire.specs.LineBytes.{spell_line, FitsLine}
-use Rattle.grid_wire.specs.SheetBytes.{spell_fields, FitsFields, spell_entries, spell_sheet, FitsSheet}
+use Rattle.grid_wire.specs.LineBytes.{encode_line, FitsLine}
+use Rattle.grid_wire.specs.SheetBytes.{encode_fields, FitsFields, encode_entries, encode_sheet, FitsSheet}
 use Rattle.grid_wire.specs.laws.Reading.{Fields, bare_sheet, fields_at, rows_at, columns_at, cells_at, links_at, sheet_made, sheet_at}
 use Rattle.grid_wire.specs.laws.StateLaws.{state_format}
 use Rattle.grid_wire.specs.laws.KeyLaws.{axis_map_format, place_map_format}
@@ -35,8 +35,8 @@ bared sheet = bare_sheet (fields_of sheet)
 abbrev FitsBare : Sheet → Type 0
 FitsBare sheet = FitsFields sheet × (bared sheet ≡ sheet)
 
-fields_format : Format FitsBare spell_fields fields_at
-unfolding spell_fields fields_at
+fields_format : Format FitsBare encode_fields fields_at
+unfolding encode_fields fields_at
 fields_format =
     made_format (both_format short_format (both_format text_format (both_format state_format (both_format color_format (both_format boolean_format (both_format signed_format signed_format))))))
     bare_sheet fields_of
@@ -45,27 +45,27 @@ fields_format =
 
 -- ---- what stands in it
 
-rows_format : Format (FitsMap {order = int_cmp} IsRow FitsLine) (spell_map (spell_signed w32) spell_line) rows_at
+rows_format : Format (FitsMap {order = int_cmp} IsRow FitsLine) (encode_map (encode_signed w32) encode_line) rows_at
 unfolding rows_at
 rows_format = axis_map_format _ (search rules) line_format
 
-columns_format : Format (FitsMap {order = int_cmp} IsColumn FitsLine) (spell_map (spell_signed w32) spell_line) columns_at
+columns_format : Format (FitsMap {order = int_cmp} IsColumn FitsLine) (encode_map (encode_signed w32) encode_line) columns_at
 unfolding columns_at
 columns_format = axis_map_format _ (search rules) line_format
 
-pub cells_format : Format (FitsMap {order = position_cmp} IsPlace FitsCell) (spell_map spell_position spell_cell) cells_at
+pub cells_format : Format (FitsMap {order = position_cmp} IsPlace FitsCell) (encode_map encode_position encode_cell) cells_at
 unfolding cells_at
 cells_format = place_map_format cell_format
 
-links_format : Format (FitsMap {order = position_cmp} IsPlace FitsLink) (spell_map spell_position spell_link) links_at
+links_format : Format (FitsMap {order = position_cmp} IsPlace FitsLink) (encode_map encode_position encode_link) links_at
 unfolding links_at
 links_format = place_map_format link_format
 
 -- ---- whole sheets
 
--- what bytes can carry is read again from its spelling, what is read was spelled so, and all else is refused
-pub sheet_format : Format FitsSheet spell_sheet sheet_at
-unfolding spell_fields spell_entries spell_sheet sheet_at
+-- what bytes can carry is read again from its encoding, what is read was encoded so, and all else is refused
+pub sheet_format : Format FitsSheet encode_sheet sheet_at
+unfolding encode_fields encode_entries encode_sheet sheet_at
 sheet_format =
     made_format (both_format fields_format (both_format rows_format (both_format columns_format (both_format cells_format (both_format links_format (both_format merges_format formattings_format))))))
     sheet_made (λ sheet. (bared sheet, (sheet.rows, (sheet.columns, (sheet.cells, (sheet.links, (sheet.merges, sheet.formattings)))))))
@@ -78,6 +78,6 @@ sheet_format =
       },
     ))
 
-pub sheet_some : (sheet : Sheet) → 1 ≤ length (spell_sheet sheet)
-unfolding spell_fields spell_sheet
+pub sheet_some : (sheet : Sheet) → 1 ≤ length (encode_sheet sheet)
+unfolding encode_fields encode_sheet
 sheet_some sheet = omega arith

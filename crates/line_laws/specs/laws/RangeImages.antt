@@ -16,10 +16,10 @@ use Rattle.base_maps.specs.Carried.{if_there}
 use Rattle.line_edits.specs.Edit.{goes_to, image_at, IsValid}
 use Rattle.line_edits.specs.Moves.{at_line, place_image, is_between}
 use Rattle.line_routes.specs.Trees.{corner_of, target, is_exposed, moved_corner, tree_carried}
-use Rattle.line_routes.specs.Way.{Way, IsWay, at}
+use Rattle.line_routes.specs.RouteModel.{RouteModel, IsRoute, at}
 use Rattle.line_edits.specs.laws.Images.{insert_parts, delete_parts}
 use Rattle.line_edits.specs.laws.PlaceLaws.{image_inside}
-use Rattle.line_routes.specs.laws.WayLaws.{at_is_way}
+use Rattle.line_routes.specs.laws.RouteLaws.{at_is_route}
 use Rattle.line_laws.specs.Ranges.{is_insertion_or_deletion, Denotes, Holds, Survives, IsImage, IsLeastRange, GoesByNodes, range_carried, RangesHoldImages}
 
 -- lines that go somewhere stay in their order
@@ -233,7 +233,7 @@ is_line_of last n h = let a = h.0 in let b = h.1 in grind (arith, ints)
 of_is_line : (last n : ℤ) → is_line last n ≡ true → IsLine last n
 of_is_line last n h = (grind (arith, ints), grind (arith, ints))
 
-module _ (w : Way) (is : IsWay w) where
+module _ (w : RouteModel) (is : IsRoute w) where
   module _ (corner : Corner) (s : Survives w corner) where
     image_is_place : IsPlace s.image
     image_is_place =
@@ -289,11 +289,11 @@ module _ (w : Way) (is : IsWay w) where
             (denotes_ordered w.to c d s.image t.image starts stops place denoted);
       }
 
-pub goes_by_nodes : (w : Way) → GoesByNodes w
+pub goes_by_nodes : (w : RouteModel) → GoesByNodes w
 unfolding tree_carried moved
 goes_by_nodes w from to tree = refl
 
 -- after an insertion or a deletion
-pub edit_holds_images : (w : Way) → IsWay w → (kind : EditKind) → IsValid w.along.last kind → is_insertion_or_deletion kind ≡ true → w.moves.to ≡ image_at w.along.last kind → RangesHoldImages w
+pub edit_holds_images : (w : RouteModel) → IsRoute w → (kind : EditKind) → IsValid w.along.last kind → is_insertion_or_deletion kind ≡ true → w.moves.to ≡ image_at w.along.last kind → RangesHoldImages w
 edit_holds_images w is kind valid h moves = λ from to _ sheet first second exposed s t.
-    holds_images (at w from to) (at_is_way w is from to) (subst KeepsOrder (sym moves) (edit_keeps_order w.along.last kind valid h)) sheet first second exposed s t
+    holds_images (at w from to) (at_is_route w is from to) (subst KeepsOrder (sym moves) (edit_keeps_order w.along.last kind valid h)) sheet first second exposed s t

@@ -15,7 +15,7 @@ use Rattle.line_map.specs.Attributes.{heirs, line_brought, line_goes_along, line
 use Rattle.line_map.specs.Keys.{AreKeys, BringsBeside, KeysAre}
 use Rattle.line_map.specs.laws.HeirLaws.{both_of, get-brought}
 use Rattle.line_map.specs.laws.MapLaws.{entries_return, entries_stay, lost_given}
-use Rattle.line_routes.specs.Way.{Way, IsWay, back, is_along}
+use Rattle.line_routes.specs.RouteModel.{RouteModel, IsRoute, back, is_along}
 
 -- lines that go along are those of the same axis
 pub same_last : (a b : Along) → IsAxis a → IsAxis b → is_along a b ≡ true → a.last ≡ b.last
@@ -41,7 +41,7 @@ line_keys b i = record {
         (is.one_to_one.to_inside p))
     | false ↦ λ apart there. let same : p ≡ q = cc in subst (IsLine b.last) same fits
   ]) refl;
-  is_way = λ w is p q. is;
+  is_route = λ w is p q. is;
   turns = λ w p q. refl;
 }
 
@@ -61,7 +61,7 @@ lines_bring {X} b i same = record {
       ];
 }
   where
-    none_comes : (w : Way) → IsWay w → (p q : ℤ) → w.moves.to p ≡ Some q → (t : Bool) → is_brought w.moves.inserted q ≡ t → t ≡ false
+    none_comes : (w : RouteModel) → IsRoute w → (p q : ℤ) → w.moves.to p ≡ Some q → (t : Bool) → is_brought w.moves.inserted q ≡ t → t ≡ false
     none_comes w is p q there false e = refl
     none_comes w is p q there true e =
         let nowhere : w.moves.from q ≡ None = is.one_to_one.fresh q e in
@@ -73,10 +73,10 @@ lines_bring {X} b i same = record {
     lies n x a true o v e fit h = let on_axis = (both_of a (is_line b.last n) e).1 in (grind (arith, ints), grind (arith, ints))
     lies n x a false o v e fit h = fit h
 
-module _ {X : Type 0} (w : Way) (is : IsWay w) (b : Along) (i : IsAxis b) (same : X → X → Bool) (m : FinMap int_cmp X) where
+module _ {X : Type 0} (w : RouteModel) (is : IsRoute w) (b : Along) (i : IsAxis b) (same : X → X → Bool) (m : FinMap int_cmp X) where
   -- what is carried along lies on the axis
   pub lines_stay : LinesLie b m → LinesLie b (lines_carried b same w m)
-  lines_stay lie = (entries_stay (line_keys b i) w is (λ _ x. x) (λ _ _. ⊤) (λ v way x h. tt) m
+  lines_stay lie = (entries_stay (line_keys b i) w is (λ _ x. x) (λ _ _. ⊤) (λ v route_model x h. tt) m
       (record { places = lie; items = λ p q x held there. tt }) (lines_bring b i same)).places
 
   -- what goes back with what was kept is the map
@@ -85,5 +85,5 @@ module _ {X : Type 0} (w : Way) (is : IsWay w) (b : Along) (i : IsAxis b) (same 
   lines_restore given lost =
       ap (λ l. overlaid l (moved_map (line_goes b (back w)) (line_goes b w) (lines_carried b same w m)))
       (lost_given int_cmp (line_keys b i) w.moves.to (line_goes_along b w) given m lost)
-      ∙ entries_return (line_keys b i) w is {P = ⊤} (λ _ x. x) (λ _ _. None) (λ _ x _. x) (λ _ _. ⊤) (λ v way x lies h. refl) (λ v way x lies k h. refl)
+      ∙ entries_return (line_keys b i) w is {P = ⊤} (λ _ x. x) (λ _ _. None) (λ _ x _. x) (λ _ _. ⊤) (λ v route_model x lies h. refl) (λ v route_model x lies k h. refl)
       (lines_bring b i same) m (λ p q x held there. tt) (λ _. None) (λ p q x there held. refl)

@@ -13,8 +13,8 @@ use Rattle.base_maps.specs.laws.Inverses.{turned_inverse}
 use Rattle.line_map.specs.Keys.{AreKeys, BringsBeside}
 use Rattle.line_map.specs.Maps.{AllLie, KeptFits, entries_carried, entries_parts, entries_restored, entry_part, places_carried}
 use Rattle.line_map.specs.laws.AloneLaws.{settles}
-use Rattle.line_routes.specs.Way.{Way, IsWay, at, back, place_goes}
-use Rattle.line_routes.specs.laws.WayLaws.{goes_inverse, goes_there, at_is_way}
+use Rattle.line_routes.specs.RouteModel.{RouteModel, IsRoute, at, back, place_goes}
+use Rattle.line_routes.specs.laws.RouteLaws.{goes_inverse, goes_there, at_is_route}
 
 -- places are keys that are carried along
 pub place_keys : AreKeys position_cmp IsPlace place_goes at
@@ -23,12 +23,12 @@ place_keys = record {
   exact = exact_positions;
   inverse = goes_inverse;
   lands = goes_there;
-  is_way = at_is_way;
+  is_route = at_is_route;
   turns = λ w p q. refl;
 }
 
 -- where nothing is brought in
-pub brings_nothing : {Q F : Type 0} {R : Q → Q → Ordering} (fits : Q → Type 0) (goes : Way → Q → Option Q) → BringsBeside {F = F} {R = R} fits goes
+pub brings_nothing : {Q F : Type 0} {R : Q → Q → Ordering} (fits : Q → Type 0) (goes : RouteModel → Q → Option Q) → BringsBeside {F = F} {R = R} fits goes
     (λ w m carried. carried)
 brings_nothing fits goes = record { beside = λ w is m carried p q there. refl; inside = λ w is m carried fit. fit }
 
@@ -40,57 +40,57 @@ part_from part (Some x) k h = (x, refl, h)
 pub of_kept : {K : Type 0} (P : K → Type 0) (own k : K) → Some own ≡ Some k → P own → P k
 of_kept P own k h own_holds = let same : own ≡ k = cc in subst P same own_holds
 
-module _ {Q : Type 0} {R : Q → Q → Ordering} {fits : Q → Type 0} {goes : Way → Q → Option Q} {way_at : Way → Q → Q → Way}
-    (keys : AreKeys R fits goes way_at) (w : Way) (is : IsWay w) where
+module _ {Q : Type 0} {R : Q → Q → Ordering} {fits : Q → Type 0} {goes : RouteModel → Q → Option Q} {route_at : RouteModel → Q → Q → RouteModel}
+    (keys : AreKeys R fits goes route_at) (w : RouteModel) (is : IsRoute w) where
   abbrev inverse : Inverse (goes w) (goes (back w))
   inverse = keys.inverse w is
 
-  module _ {F : Type 0} (carry : Way → F → F) (Lies : Way → F → Type 0) where
-    module _ (stays : (v : Way) → IsWay v → (x : F) → Lies v x → Lies (back v) (carry v x)) (m : FinMap R F) (lie : AllLie goes way_at fits Lies w m) where
+  module _ {F : Type 0} (carry : RouteModel → F → F) (Lies : RouteModel → F → Type 0) where
+    module _ (stays : (v : RouteModel) → IsRoute v → (x : F) → Lies v x → Lies (back v) (carry v x)) (m : FinMap R F) (lie : AllLie goes route_at fits Lies w m) where
       -- an entry of a carried map: its key fits, and it lies inside on the way back to any key that goes there
       abbrev LiesBack : Q → F → Type 0
-      LiesBack q y = fits q × ((p : Q) → goes w p ≡ Some q → Lies (way_at (back w) q p) y)
+      LiesBack q y = fits q × ((p : Q) → goes w p ≡ Some q → Lies (route_at (back w) q p) y)
 
-      each_lies : (q : Q) (y : F) → get (entries_carried goes way_at carry w m) q ≡ Some y → LiesBack q y
-      each_lies = each_found R LiesBack (entries_carried goes way_at carry w m)
-          (each_gathered R keys.total keys.exact LiesBack (goes w) (goes (back w)) inverse (λ p q x. Some (carry (way_at w p q) x)) m (λ p q x there held. (
+      each_lies : (q : Q) (y : F) → get (entries_carried goes route_at carry w m) q ≡ Some y → LiesBack q y
+      each_lies = each_found R LiesBack (entries_carried goes route_at carry w m)
+          (each_gathered R keys.total keys.exact LiesBack (goes w) (goes (back w)) inverse (λ p q x. Some (carry (route_at w p q) x)) m (λ p q x there held. (
             keys.lands w is p q (lie.places p x held) there,
             λ r goes_too.
                 let same : p ≡ r = let one : Some p ≡ Some r = sym (inverse.back p q there) ∙ inverse.back r q goes_too in cc in
-                let P : Q → Type 0 = λ k. Lies (way_at (back w) q k) (carry (way_at w p q) x) in
-                subst P same (subst (λ v. Lies v (carry (way_at w p q) x)) (sym (keys.turns w p q))
-                (stays (way_at w p q) (keys.is_way w is p q) x (lie.items p q x held there))),
+                let P : Q → Type 0 = λ k. Lies (route_at (back w) q k) (carry (route_at w p q) x) in
+                subst P same (subst (λ v. Lies v (carry (route_at w p q) x)) (sym (keys.turns w p q))
+                (stays (route_at w p q) (keys.is_route w is p q) x (lie.items p q x held there))),
           )))
 
       -- a map that is carried along lies inside
-      pub entries_stay : {with_brought : Way → FinMap R F → FinMap R F → FinMap R F} → BringsBeside fits goes with_brought →
-          AllLie goes way_at fits Lies (back w) (with_brought w m (entries_carried goes way_at carry w m))
+      pub entries_stay : {with_brought : RouteModel → FinMap R F → FinMap R F → FinMap R F} → BringsBeside fits goes with_brought →
+          AllLie goes route_at fits Lies (back w) (with_brought w m (entries_carried goes route_at carry w m))
       entries_stay brings = record {
-        places = brings.inside w is m (entries_carried goes way_at carry w m) (λ q y g. (each_lies q y g).0);
+        places = brings.inside w is m (entries_carried goes route_at carry w m) (λ q y g. (each_lies q y g).0);
         items = λ q p y g there.
             let going = inverse.forth p q there in
-            (each_lies q y (sym (brings.beside w is m (entries_carried goes way_at carry w m) p q going) ∙ g)).1 p going;
+            (each_lies q y (sym (brings.beside w is m (entries_carried goes route_at carry w m) p q going) ∙ g)).1 p going;
       }
 
   -- the part of an entry that goes somewhere
-  pub part_there : {F P : Type 0} (part : Way → F → Option P) (m : FinMap R F) (p q : Q) (x : F) → goes w p ≡ Some q →
-      get m p ≡ Some x → entry_part goes way_at part w m p ≡ part (way_at w p q) x
-  part_there part m p q x there held = λ i. if_there (held i) (λ x. if_there (there i) (λ q. part (way_at w p q) x))
+  pub part_there : {F P : Type 0} (part : RouteModel → F → Option P) (m : FinMap R F) (p q : Q) (x : F) → goes w p ≡ Some q →
+      get m p ≡ Some x → entry_part goes route_at part w m p ≡ part (route_at w p q) x
+  part_there part m p q x there held = λ i. if_there (held i) (λ x. if_there (there i) (λ q. part (route_at w p q) x))
 
-  module _ {F P : Type 0} (carry : Way → F → F) (part : Way → F → Option P) (restore : Way → F → P → F) (Lies : Way → F → Type 0)
-      (comes_back : (v : Way) → IsWay v → (x : F) → Lies v x → part v x ≡ None → carry (back v) (carry v x) ≡ x)
-      (restores : (v : Way) → IsWay v → (x : F) → Lies v x → (k : P) → part v x ≡ Some k → restore v (carry v x) k ≡ x)
-      {with_brought : Way → FinMap R F → FinMap R F → FinMap R F} (brings : BringsBeside fits goes with_brought) where
+  module _ {F P : Type 0} (carry : RouteModel → F → F) (part : RouteModel → F → Option P) (restore : RouteModel → F → P → F) (Lies : RouteModel → F → Type 0)
+      (comes_back : (v : RouteModel) → IsRoute v → (x : F) → Lies v x → part v x ≡ None → carry (back v) (carry v x) ≡ x)
+      (restores : (v : RouteModel) → IsRoute v → (x : F) → Lies v x → (k : P) → part v x ≡ Some k → restore v (carry v x) k ≡ x)
+      {with_brought : RouteModel → FinMap R F → FinMap R F → FinMap R F} (brings : BringsBeside fits goes with_brought) where
     -- what is brought in goes nowhere on the way back
     brought_ignored : (parts : Q → Option P) (m carried : FinMap R F) →
-        entries_restored goes way_at carry restore w parts (with_brought w m carried) ≡ entries_restored goes way_at carry restore w parts carried
+        entries_restored goes route_at carry restore w parts (with_brought w m carried) ≡ entries_restored goes route_at carry restore w parts carried
     brought_ignored parts m carried = same_map keys.total keys.exact _ _ (λ p.
         get-carried_map R keys.total keys.exact (goes (back w)) (goes w) (turned_inverse inverse) settle (with_brought w m carried) p
         ∙ at_key p (goes w p) refl
         ∙ sym (get-carried_map R keys.total keys.exact (goes (back w)) (goes w) (turned_inverse inverse) settle carried p))
       where
         settle : Q → Q → F → F
-        settle q p x = settled (carry (back (way_at w p q))) (restore (way_at w p q)) (parts p) x
+        settle q p x = settled (carry (back (route_at w p q))) (restore (route_at w p q)) (parts p) x
 
         at_key : (p : Q) (t : Option Q) → goes w p ≡ t →
             if_there t (λ q. if_there (get (with_brought w m carried) q) (λ x. Some (settle q p x))) ≡ if_there t (λ q. if_there (get carried q) (λ x. Some
@@ -99,76 +99,76 @@ module _ {Q : Type 0} {R : Q → Q → Ordering} {fits : Q → Type 0} {goes : W
         at_key p (Some q) there = ap (λ v. if_there v (λ x. Some (settle q p x))) (brings.beside w is m carried p q there)
 
     -- a map goes back with its lost entries, and with parts that are those of its entries
-    pub entries_return : (m : FinMap R F) → ((p q : Q) (x : F) → get m p ≡ Some x → goes w p ≡ Some q → Lies (way_at w p q) x) →
-        (parts : Q → Option P) → ((p q : Q) (x : F) → goes w p ≡ Some q → get m p ≡ Some x → parts p ≡ part (way_at w p q) x) →
-        overlaid (lost_map (goes w) m) (entries_restored goes way_at carry restore w parts (with_brought w m (entries_carried goes way_at carry w m))) ≡ m
+    pub entries_return : (m : FinMap R F) → ((p q : Q) (x : F) → get m p ≡ Some x → goes w p ≡ Some q → Lies (route_at w p q) x) →
+        (parts : Q → Option P) → ((p q : Q) (x : F) → goes w p ≡ Some q → get m p ≡ Some x → parts p ≡ part (route_at w p q) x) →
+        overlaid (lost_map (goes w) m) (entries_restored goes route_at carry restore w parts (with_brought w m (entries_carried goes route_at carry w m))) ≡ m
     entries_return m lie parts kept =
-        ap (overlaid (lost_map (goes w) m)) (brought_ignored parts m (entries_carried goes way_at carry w m))
+        ap (overlaid (lost_map (goes w) m)) (brought_ignored parts m (entries_carried goes route_at carry w m))
         ∙ map_restores R keys.total keys.exact (goes w) (goes (back w)) inverse
-        (λ p q. carry (way_at w p q)) (λ p q. carry (back (way_at w p q))) (λ p q. restore (way_at w p q)) parts m
+        (λ p q. carry (route_at w p q)) (λ p q. carry (back (route_at w p q))) (λ p q. restore (route_at w p q)) parts m
         (λ p q x there held.
-        let v : Way = way_at w p q in
-        let way : IsWay v = keys.is_way w is p q in
+        let v : RouteModel = route_at w p q in
+        let route_model : IsRoute v = keys.is_route w is p q in
         let lies : Lies v x = lie p q x held there in
-        settles (carry (back v)) (restore v) (carry v x) x (part v x) (parts p) (sym (kept p q x there held)) (comes_back v way x lies) (restores v way x lies))
+        settles (carry (back v)) (restore v) (carry v x) x (part v x) (parts p) (sym (kept p q x there held)) (comes_back v route_model x lies) (restores v route_model x lies))
 
     -- it is restored from what is kept of it
-    pub entries_restore : (m : FinMap R F) → AllLie goes way_at fits Lies w m → (parts : Q → Option P) → ((p : Q) → parts p ≡ get
-        (entries_parts goes way_at part w m) p) →
-        overlaid (lost_map (goes w) m) (entries_restored goes way_at carry restore w parts (with_brought w m (entries_carried goes way_at carry w m))) ≡ m
+    pub entries_restore : (m : FinMap R F) → AllLie goes route_at fits Lies w m → (parts : Q → Option P) → ((p : Q) → parts p ≡ get
+        (entries_parts goes route_at part w m) p) →
+        overlaid (lost_map (goes w) m) (entries_restored goes route_at carry restore w parts (with_brought w m (entries_carried goes route_at carry w m))) ≡ m
     entries_restore m lie parts are = entries_return m lie.items parts (λ p q x there held.
-        are p ∙ get-parts_map R keys.total keys.exact (goes w) (λ p q x. part (way_at w p q) x) m p ∙ part_there part m p q x there held)
+        are p ∙ get-parts_map R keys.total keys.exact (goes w) (λ p q x. part (route_at w p q) x) m p ∙ part_there part m p q x there held)
 
-  module _ {F P : Type 0} (part : Way → F → Option P) (Lies : Way → F → Type 0) (Fits : Way → P → Type 0)
-      (part_fits : (v : Way) → IsWay v → (x : F) → Lies v x → (k : P) → part v x ≡ Some k → Fits v k) where
+  module _ {F P : Type 0} (part : RouteModel → F → Option P) (Lies : RouteModel → F → Type 0) (Fits : RouteModel → P → Type 0)
+      (part_fits : (v : RouteModel) → IsRoute v → (x : F) → Lies v x → (k : P) → part v x ≡ Some k → Fits v k) where
     there_at : (p q : Q) (v : Option F) → goes w p ≡ Some q →
-        if_there v (λ x. if_there (goes w p) (λ q. part (way_at w p q) x)) ≡ if_there v (part (way_at w p q))
+        if_there v (λ x. if_there (goes w p) (λ q. part (route_at w p q) x)) ≡ if_there v (part (route_at w p q))
     there_at p q None there = refl
-    there_at p q (Some x) there = ap (λ t. if_there t (λ q. part (way_at w p q) x)) there
+    there_at p q (Some x) there = ap (λ t. if_there t (λ q. part (route_at w p q) x)) there
 
     -- what is kept of a map can be laid over it
-    pub kept_map_fits : (m : FinMap R F) → AllLie goes way_at fits Lies w m → {S : Q → Q → Ordering} (lost : FinMap S F) → ((p : Q) → get lost p ≡ get
+    pub kept_map_fits : (m : FinMap R F) → AllLie goes route_at fits Lies w m → {S : Q → Q → Ordering} (lost : FinMap S F) → ((p : Q) → get lost p ≡ get
         (lost_map (goes w) m) p) →
-        (parts : Q → Option P) → ((p : Q) → parts p ≡ get (entries_parts goes way_at part w m) p) → KeptFits goes way_at fits Fits w lost parts
+        (parts : Q → Option P) → ((p : Q) → parts p ≡ get (entries_parts goes route_at part w m) p) → KeptFits goes route_at fits Fits w lost parts
     kept_map_fits m lie lost lost_are parts are = record {
       lost_inside = λ p x h. keys_lost R keys.total keys.exact fits (goes w) m lie.places p x (sym (lost_are p) ∙ h);
       parts_fit = λ p q k there h.
-          let found = part_from (part (way_at w p q)) (get m p) k (sym (there_at p q (get m p) there)
-          ∙ sym (get-parts_map R keys.total keys.exact (goes w) (λ p q x. part (way_at w p q) x) m p) ∙ sym (are p) ∙ h) in
-          part_fits (way_at w p q) (keys.is_way w is p q) found.0 (lie.items p q found.0 found.1 there) k found.2;
+          let found = part_from (part (route_at w p q)) (get m p) k (sym (there_at p q (get m p) there)
+          ∙ sym (get-parts_map R keys.total keys.exact (goes w) (λ p q x. part (route_at w p q) x) m p) ∙ sym (are p) ∙ h) in
+          part_fits (route_at w p q) (keys.is_route w is p q) found.0 (lie.items p q found.0 found.1 there) k found.2;
     }
 
   -- maps of which contracts see what stands for their entries
-  module _ {T F : Type 0} (model : FinMap R F → T) (seen : T → FinMap R F) (model_seen : (map : T) → model (seen map) ≡ map) (with_brought : Way → T → T → T)
-      (brings : BringsBeside fits goes (λ w m carried. seen (with_brought w (model m) (model carried)))) (carry : Way → F → F) (Lies : Way → F → Type 0)
-      (map : T) (lie : AllLie goes way_at fits Lies w (seen map)) where
+  module _ {T F : Type 0} (model : FinMap R F → T) (seen : T → FinMap R F) (model_seen : (map : T) → model (seen map) ≡ map) (with_brought : RouteModel → T → T → T)
+      (brings : BringsBeside fits goes (λ w m carried. seen (with_brought w (model m) (model carried)))) (carry : RouteModel → F → F) (Lies : RouteModel → F → Type 0)
+      (map : T) (lie : AllLie goes route_at fits Lies w (seen map)) where
     abbrev carried : T
-    carried = model (entries_carried goes way_at carry w (seen map))
+    carried = model (entries_carried goes route_at carry w (seen map))
 
-    pub map_stays : ((v : Way) → IsWay v → (x : F) → Lies v x → Lies (back v) (carry v x)) → AllLie goes way_at fits Lies (back w) (seen
+    pub map_stays : ((v : RouteModel) → IsRoute v → (x : F) → Lies v x → Lies (back v) (carry v x)) → AllLie goes route_at fits Lies (back w) (seen
         (with_brought w map carried))
-    map_stays stays = subst (λ before. AllLie goes way_at fits Lies (back w) (seen (with_brought w before carried))) (model_seen map)
+    map_stays stays = subst (λ before. AllLie goes route_at fits Lies (back w) (seen (with_brought w before carried))) (model_seen map)
         (entries_stay carry Lies stays (seen map) lie brings)
 
-    pub map_goes_back : {P : Type 0} (part : Way → F → Option P) (restore : Way → F → P → F) →
-        ((v : Way) → IsWay v → (x : F) → Lies v x → part v x ≡ None → carry (back v) (carry v x) ≡ x) →
-        ((v : Way) → IsWay v → (x : F) → Lies v x → (k : P) → part v x ≡ Some k → restore v (carry v x) k ≡ x) →
-        (lost : FinMap R F) → lost ≡ lost_map (goes w) (seen map) → (parts : Q → Option P) → ((p : Q) → parts p ≡ get (entries_parts goes way_at part w
+    pub map_goes_back : {P : Type 0} (part : RouteModel → F → Option P) (restore : RouteModel → F → P → F) →
+        ((v : RouteModel) → IsRoute v → (x : F) → Lies v x → part v x ≡ None → carry (back v) (carry v x) ≡ x) →
+        ((v : RouteModel) → IsRoute v → (x : F) → Lies v x → (k : P) → part v x ≡ Some k → restore v (carry v x) k ≡ x) →
+        (lost : FinMap R F) → lost ≡ lost_map (goes w) (seen map) → (parts : Q → Option P) → ((p : Q) → parts p ≡ get (entries_parts goes route_at part w
         (seen map)) p) →
-        model (overlaid lost (entries_restored goes way_at carry restore w parts (seen (with_brought w map carried)))) ≡ map
+        model (overlaid lost (entries_restored goes route_at carry restore w parts (seen (with_brought w map carried)))) ≡ map
     map_goes_back part restore comes_back restores lost lost_is parts are =
-        (λ j. model (overlaid (lost_is j) (entries_restored goes way_at carry restore w parts (seen (with_brought w (sym (model_seen map) j) carried)))))
+        (λ j. model (overlaid (lost_is j) (entries_restored goes route_at carry restore w parts (seen (with_brought w (sym (model_seen map) j) carried)))))
         ∙ ap model (entries_restore carry part restore Lies comes_back restores brings (seen map) lie parts are) ∙ model_seen map
 
 -- a map by place that is carried along lies inside
-pub places_stay : (w : Way) → IsWay w → {F : Type 0} (carry : Way → F → F) (Lies : Way → F → Type 0) →
-    ((v : Way) → IsWay v → (x : F) → Lies v x → Lies (back v) (carry v x)) → (m : FinMap position_cmp F) → AllLie place_goes at IsPlace Lies w m →
+pub places_stay : (w : RouteModel) → IsRoute w → {F : Type 0} (carry : RouteModel → F → F) (Lies : RouteModel → F → Type 0) →
+    ((v : RouteModel) → IsRoute v → (x : F) → Lies v x → Lies (back v) (carry v x)) → (m : FinMap position_cmp F) → AllLie place_goes at IsPlace Lies w m →
     AllLie place_goes at IsPlace Lies (back w) (places_carried carry w m)
 places_stay w is carry Lies stays m lie = entries_stay place_keys w is carry Lies stays m lie (brings_nothing IsPlace place_goes)
 
 -- what was given where a test says so, and nothing elsewhere, is what is lost where the test says that keys go
-pub lost_given : {Q X : Type 0} (R : Q → Q → Ordering) {fits : Q → Type 0} {goes : Way → Q → Option Q} {way_at : Way → Q → Q → Way} →
-    AreKeys R fits goes way_at →
+pub lost_given : {Q X : Type 0} (R : Q → Q → Ordering) {fits : Q → Type 0} {goes : RouteModel → Q → Option Q} {route_at : RouteModel → Q → Q → RouteModel} →
+    AreKeys R fits goes route_at →
     (to : Q → Option Q) (b : Bool) (given m : FinMap R X) → (b ≡ true → given ≡ lost_map to m) →
     (if b then given else empty) ≡ lost_map (λ p. if b then to p else Some p) m
 lost_given R keys to true given m h = h refl

@@ -27,13 +27,13 @@ use Rattle.format_rules.specs.laws.RuleTreeLaws.{changed_have}
 use Rattle.line_routes.specs.MergedCells.{merged_cell_carried}
 use Rattle.line_routes.specs.Trees.{TreeLies, following, tree_carried}
 use Rattle.line_routes.specs.Trial.{part_by_trial}
-use Rattle.line_routes.specs.Way.{Way, IsWay, back}
+use Rattle.line_routes.specs.RouteModel.{RouteModel, IsRoute, back}
 use Rattle.line_routes.specs.laws.MergedCellLaws.{merged_cell_stays}
 use Rattle.line_routes.specs.laws.TreeLaws.{tree_placed}
 use Rattle.line_routes.specs.laws.TrialLaws.{trial_comes_back, trial_part}
-use Rattle.line_routes.specs.laws.WayLaws.{back_is_way}
+use Rattle.line_routes.specs.laws.RouteLaws.{back_is_route}
 use Rattle.line_map.specs.Canonical.{AreCanonicalKept, KeptLie}
-use Rattle.line_map.specs.Rules.{at_part, way_of_trees, formatting_moved, formatting_carried, formatting_part, rules_carried, rules_kept, rules_restored, DoesNotReturn, KeepsRule, RulesLie}
+use Rattle.line_map.specs.Rules.{at_part, route_of_trees, formatting_moved, formatting_carried, formatting_part, rules_carried, rules_kept, rules_restored, DoesNotReturn, KeepsRule, RulesLie}
 use Rattle.base_maps.specs.Carried.{settled}
 use Rattle.base_maps.specs.ByIndex.{restored_at}
 use Rattle.base_maps.specs.laws.ByIndexLaws.{items_regained, kept_are, kept_within, restored_are}
@@ -41,7 +41,7 @@ use Rattle.base_maps.specs.laws.ByIndexLaws.{items_regained, kept_are, kept_with
 -- ---- one rule
 
 -- the formulas of a rule lie where the map meets them
-pub trees_lie : (w : Way) (parts : List MergedCell) (rule : CfRule) → StandsOn parts rule → HasTrees (TreeLies (way_of_trees w parts)) rule
+pub trees_lie : (w : RouteModel) (parts : List MergedCell) (rule : CfRule) → StandsOn parts rule → HasTrees (TreeLies (route_of_trees w parts)) rule
 trees_lie w [] rule stands = absurd (none stands.first)
   where
     none : place_of [] ≡ Some stands.place → ⊥
@@ -54,18 +54,18 @@ trees_lie w (first ∷ others) rule stands =
     some_same : Some (anchor_place first) ≡ Some stands.place → anchor_place first ≡ stands.place
     some_same h = cc
 
-parts_stay : (w : Way) → IsWay w → (parts : List MergedCell) → All IsInside parts → All IsInside (map (merged_cell_carried w) parts)
+parts_stay : (w : RouteModel) → IsRoute w → (parts : List MergedCell) → All IsInside parts → All IsInside (map (merged_cell_carried w) parts)
 parts_stay w is parts inside = All-map IsInside (merged_cell_carried w) parts
     (All-weaker IsInside (λ part. IsInside (merged_cell_carried w part)) (merged_cell_stays w is) parts inside)
 
-moved_stands : (w : Way) → IsWay w → (parts : List MergedCell) (rule : CfRule) → StandsOn parts rule →
-    StandsOn (map (merged_cell_carried w) parts) (trees_changed (tree_carried (way_of_trees w parts)) rule)
+moved_stands : (w : RouteModel) → IsRoute w → (parts : List MergedCell) (rule : CfRule) → StandsOn parts rule →
+    StandsOn (map (merged_cell_carried w) parts) (trees_changed (tree_carried (route_of_trees w parts)) rule)
 moved_stands w is [] rule stands = absurd (none stands.first)
   where
     none : place_of [] ≡ Some stands.place → ⊥
     none h = cc
 moved_stands w is (first ∷ others) rule stands =
-    let there : Way = at_part w first in
+    let there : RouteModel = at_part w first in
     record {
       place = anchor_place (merged_cell_carried w first);
       first = refl;
@@ -75,63 +75,63 @@ moved_stands w is (first ∷ others) rule stands =
     }
 
 -- a rule that is carried along stands inside the sheet
-pub formatting_stays : (w : Way) → IsWay w → (formatting : ConditionalFormatting) → StandsInside formatting → StandsInside (formatting_carried w formatting)
+pub formatting_stays : (w : RouteModel) → IsRoute w → (formatting : ConditionalFormatting) → StandsInside formatting → StandsInside (formatting_carried w formatting)
 unfolding formatting_carried
 formatting_stays w is formatting stands = elim w.is_edited as (λ b. StandsInside (if b then formatting_moved w formatting else formatting))
     [ true ↦ moved_stands w is formatting.parts formatting.rule stands | false ↦ stands ]
 
-pub formatting_comes_back : (w : Way) (formatting : ConditionalFormatting) → formatting_part w formatting ≡ None → formatting_carried (back w)
+pub formatting_comes_back : (w : RouteModel) (formatting : ConditionalFormatting) → formatting_part w formatting ≡ None → formatting_carried (back w)
     (formatting_carried w formatting) ≡ formatting
 formatting_comes_back w formatting h = trial_comes_back equality.ghosts.eq formatting_carried formatting_equals w formatting h
 
-pub formatting_restores : (w : Way) (formatting part : ConditionalFormatting) → formatting_part w formatting ≡ Some part → part ≡ formatting
+pub formatting_restores : (w : RouteModel) (formatting part : ConditionalFormatting) → formatting_part w formatting ≡ Some part → part ≡ formatting
 formatting_restores w formatting part h = trial_part equality.ghosts.eq formatting_carried w formatting part h
 
-same_numbers : (w : Way) (n : Node) → tree.has_canonical_numbers (tree_carried w n) ≡ tree.has_canonical_numbers n
+same_numbers : (w : RouteModel) (n : Node) → tree.has_canonical_numbers (tree_carried w n) ≡ tree.has_canonical_numbers n
 unfolding tree_carried
 same_numbers w n = numbers-moved Canonical w.to (following w) n
 
 -- its numbers stay
-numbers_at : (w : Way) (formatting : ConditionalFormatting) → IsCanonicalFormatting formatting → IsCanonicalFormatting (formatting_moved w formatting)
+numbers_at : (w : RouteModel) (formatting : ConditionalFormatting) → IsCanonicalFormatting formatting → IsCanonicalFormatting (formatting_moved w formatting)
 numbers_at w formatting h =
-    let there = way_of_trees w formatting.parts in subst IsTrue (sym (canonical_still (tree_carried there) (same_numbers there) formatting.rule)) h
+    let there = route_of_trees w formatting.parts in subst IsTrue (sym (canonical_still (tree_carried there) (same_numbers there) formatting.rule)) h
 
-pub formatting_numbers : (w : Way) (formatting : ConditionalFormatting) → IsCanonicalFormatting formatting → IsCanonicalFormatting
+pub formatting_numbers : (w : RouteModel) (formatting : ConditionalFormatting) → IsCanonicalFormatting formatting → IsCanonicalFormatting
     (formatting_carried w formatting)
 unfolding formatting_carried
 formatting_numbers w formatting h = elim w.is_edited as (λ b. IsCanonicalFormatting (if b then formatting_moved w formatting else formatting))
     [ true ↦ numbers_at w formatting h | false ↦ h ]
 
 -- what is kept of a rule is the rule
-part_is : (P : ConditionalFormatting → Type 0) (w : Way) (formatting : ConditionalFormatting) → P formatting → (o : Option ConditionalFormatting) →
+part_is : (P : ConditionalFormatting → Type 0) (w : RouteModel) (formatting : ConditionalFormatting) → P formatting → (o : Option ConditionalFormatting) →
     formatting_part w formatting ≡ o → IfSome o P
 part_is P w formatting h None is = tt
 part_is P w formatting h (Some part) is = subst P (sym (formatting_restores w formatting part is)) h
 
 -- ---- lists of rules
 
-pub rules_stay : (w : Way) → IsWay w → (rules : List ConditionalFormatting) → RulesLie rules → RulesLie (rules_carried w rules)
+pub rules_stay : (w : RouteModel) → IsRoute w → (rules : List ConditionalFormatting) → RulesLie rules → RulesLie (rules_carried w rules)
 rules_stay w is rules lie = All-map StandsInside (formatting_carried w) rules
     (All-weaker StandsInside (λ rule. StandsInside (formatting_carried w rule)) (formatting_stays w is) rules lie)
 
-pub rules_numbers : (w : Way) (rules : List ConditionalFormatting) → AreCanonicalRules rules → AreCanonicalRules (rules_carried w rules)
+pub rules_numbers : (w : RouteModel) (rules : List ConditionalFormatting) → AreCanonicalRules rules → AreCanonicalRules (rules_carried w rules)
 rules_numbers w rules all =
     All-map IsCanonicalFormatting (formatting_carried w) rules
     (All-weaker IsCanonicalFormatting (λ rule. IsCanonicalFormatting (formatting_carried w rule)) (formatting_numbers w) rules all)
 
-pub kept_numbers : (w : Way) (rules : List ConditionalFormatting) → AreCanonicalRules rules → AreCanonicalKept (rules_kept w rules)
+pub kept_numbers : (w : RouteModel) (rules : List ConditionalFormatting) → AreCanonicalRules rules → AreCanonicalKept (rules_kept w rules)
 kept_numbers w rules all =
     kept_are (formatting_part w) IsCanonicalFormatting IsCanonicalFormatting
     (λ rule h. part_is IsCanonicalFormatting w rule h (formatting_part w rule) refl) rules
     (recursion_from_All IsCanonicalFormatting rules all)
 
-pub kept_lie : (w : Way) (rules : List ConditionalFormatting) → RulesLie rules → KeptLie (rules_kept w rules)
+pub kept_lie : (w : RouteModel) (rules : List ConditionalFormatting) → RulesLie rules → KeptLie (rules_kept w rules)
 kept_lie w rules lie =
     kept_are (formatting_part w) StandsInside StandsInside (λ rule h. part_is StandsInside w rule h (formatting_part w rule) refl) rules
     (recursion_from_All StandsInside rules lie)
 
 -- the rules that come back have canonical numbers, and stand inside, where those do that were kept
-pub restored_numbers : (w : Way) (kept : FinMap nat_cmp ConditionalFormatting) → AreCanonicalKept kept → (rules : List ConditionalFormatting) →
+pub restored_numbers : (w : RouteModel) (kept : FinMap nat_cmp ConditionalFormatting) → AreCanonicalKept kept → (rules : List ConditionalFormatting) →
     AreCanonicalRules rules →
     AreCanonicalRules (rules_restored w kept rules)
 restored_numbers w kept numbers rules all =
@@ -139,11 +139,11 @@ restored_numbers w kept numbers rules all =
     (restored_are (formatting_carried (back w)) (λ _ own. own) IsCanonicalFormatting IsCanonicalFormatting IsCanonicalFormatting (formatting_numbers (back w)) (λ _ own h. h) (get kept) numbers rules
     (recursion_from_All IsCanonicalFormatting rules all))
 
-pub restored_lie : (w : Way) → IsWay w → (kept : FinMap nat_cmp ConditionalFormatting) → KeptLie kept → (rules : List ConditionalFormatting) →
+pub restored_lie : (w : RouteModel) → IsRoute w → (kept : FinMap nat_cmp ConditionalFormatting) → KeptLie kept → (rules : List ConditionalFormatting) →
     RulesLie rules → RulesLie (rules_restored w kept rules)
 restored_lie w is kept inside rules lie =
     All-from_recursion StandsInside (rules_restored w kept rules)
-    (restored_are (formatting_carried (back w)) (λ _ own. own) StandsInside StandsInside StandsInside (formatting_stays (back w) (back_is_way w is)) (λ _ own h. h) (get kept) inside rules
+    (restored_are (formatting_carried (back w)) (λ _ own. own) StandsInside StandsInside StandsInside (formatting_stays (back w) (back_is_route w is)) (λ _ own h. h) (get kept) inside rules
     (recursion_from_All StandsInside rules lie))
 
 nothing_known : (rules : List ConditionalFormatting) → AllByRecursion (λ _. ⊤) rules
@@ -151,25 +151,25 @@ nothing_known [] = tt
 nothing_known (rule ∷ rules) = (tt, nothing_known rules)
 
 -- the law of followers: the rules come back with what is kept of them
-pub rules_regained : (w : Way) (rules : List ConditionalFormatting) → rules_restored w (rules_kept w rules) (rules_carried w rules) ≡ rules
+pub rules_regained : (w : RouteModel) (rules : List ConditionalFormatting) → rules_restored w (rules_kept w rules) (rules_carried w rules) ≡ rules
 rules_regained w rules =
     items_regained (formatting_part w) (formatting_carried w) (formatting_carried (back w)) (λ _ own. own) (λ _. ⊤)
     (λ rule _ h. formatting_comes_back w rule h) (λ rule _ part h. formatting_restores w rule part h) rules (nothing_known rules)
 
 -- a rule that is kept does not come back by itself
-kept_away : (w : Way) (rule k : ConditionalFormatting) → formatting_part w rule ≡ Some k → DoesNotReturn w rule
+kept_away : (w : RouteModel) (rule k : ConditionalFormatting) → formatting_part w rule ≡ Some k → DoesNotReturn w rule
 unfolding part_by_trial
 kept_away w rule k h home =
     let nothing : formatting_part w rule ≡ None =
     ap (λ b. if b then None else Some rule) ((formatting_equals (formatting_carried (back w) (formatting_carried w rule)) rule).1 home) in
     let never : ◌≡◌ {A = Option ConditionalFormatting} None (Some k) = sym nothing ∙ h in cc
 
-part_needed : (w : Way) (rule : ConditionalFormatting) (o : Option ConditionalFormatting) → formatting_part w rule ≡ o → IfSome o (DoesNotReturn w)
+part_needed : (w : RouteModel) (rule : ConditionalFormatting) (o : Option ConditionalFormatting) → formatting_part w rule ≡ o → IfSome o (DoesNotReturn w)
 part_needed w rule None h = tt
 part_needed w rule (Some k) h = subst (DoesNotReturn w) (sym (formatting_restores w rule k h)) (kept_away w rule k h)
 
 -- so it is of each that is kept
-rules_needed : (w : Way) (rules : List ConditionalFormatting) (index : ℕ) → IfSome (get (rules_kept w rules) index) (DoesNotReturn w)
+rules_needed : (w : RouteModel) (rules : List ConditionalFormatting) (index : ℕ) → IfSome (get (rules_kept w rules) index) (DoesNotReturn w)
 rules_needed w rules index =
     kept_are (formatting_part w) (λ _. ⊤) (DoesNotReturn w) (λ rule _. part_needed w rule (formatting_part w rule) refl) rules (nothing_known rules) index
 
@@ -189,7 +189,7 @@ came_back_at carry home kept at (first ∷ rules) h (suc index) rule there =
     ap (λ n. settled home (λ _ own. own) (kept n) (carry rule)) on ∙ came_back_at carry home kept (at + 1) rules rest index rule there
 
 -- exactly those rules are kept that the way back does not give: the list comes back with them
-pub rules_are_kept : (w : Way) (rules : List ConditionalFormatting) (index : ℕ) (rule : ConditionalFormatting) →
+pub rules_are_kept : (w : RouteModel) (rules : List ConditionalFormatting) (index : ℕ) (rule : ConditionalFormatting) →
     KeepsRule w rules (rules_kept w rules) index rule
 rules_are_kept w rules index rule = (
   λ held. (there held, subst (λ o. IfSome o (DoesNotReturn w)) held (rules_needed w rules index)),

@@ -13,29 +13,29 @@ use Rattle.formula_tree.specs.Corners.{lower_corner, higher_corner, are_rows_rev
 use Rattle.formula_tree.specs.laws.CornerLaws.{corner_row-corner_to, corner_column-corner_to, corner_to-corner}
 use Rattle.line_edits.specs.Moves.{LineMoves, at_line, place_image}
 use Rattle.line_routes.specs.Trees.{corner_of, target, moved_corner}
-use Rattle.line_routes.specs.Way.{Way, IsWay, back, place_goes}
+use Rattle.line_routes.specs.RouteModel.{RouteModel, IsRoute, back, place_goes}
 use Rattle.line_routes.specs.laws.TreeLaws.{landed}
-use Rattle.line_routes.specs.laws.WayLaws.{goes_inverse, goes_inside}
+use Rattle.line_routes.specs.laws.RouteLaws.{goes_inverse, goes_inside}
 
 -- where a corner stands
 abbrev pub place_of : Position → Corner → Position
 place_of formula corner = record { row = corner_row formula corner; column = corner_column formula corner }
 
--- the way on which a corner's place goes where it is exposed, and stays where it is not
-abbrev pub exposing : Way → Bool → Way
+-- the route on which a corner's place goes where it is exposed, and stays where it is not
+abbrev pub exposing : RouteModel → Bool → RouteModel
 exposing w exposed = record w { is_edited = exposed }
 
-pub exposing_is_way : (w : Way) → IsWay w → (b : Bool) → IsWay (exposing w b)
-exposing_is_way w is b = record { axis = is.axis; one_to_one = is.one_to_one }
+pub exposing_is_route : (w : RouteModel) → IsRoute w → (b : Bool) → IsRoute (exposing w b)
+exposing_is_route w is b = record { axis = is.axis; one_to_one = is.one_to_one }
 
 -- a corner that lies inside goes where its place goes
-pub target_goes : (w : Way) (b : Bool) (corner : Corner) → is_inside w.from corner ≡ true →
+pub target_goes : (w : RouteModel) (b : Bool) (corner : Corner) → is_inside w.from corner ≡ true →
     target w b corner ≡ place_goes (exposing w b) (place_of w.from corner)
 unfolding target corner_at place_goes
 target_goes w true corner h = ap (λ i. if_there (if i then Some (place_of w.from corner) else None) (place_image w.along w.moves.to)) h
 target_goes w false corner h = ap (λ i. if i then Some (place_of w.from corner) else None) h
 
-pub moved_goes : (w : Way) (b : Bool) (corner : Corner) → is_inside w.from corner ≡ true →
+pub moved_goes : (w : RouteModel) (b : Bool) (corner : Corner) → is_inside w.from corner ≡ true →
     moved_corner w b corner ≡ if_there (place_goes (exposing w b) (place_of w.from corner)) (λ place. Some (corner_of w.to corner place))
 moved_goes w b corner h = ap (λ o. if_there o (λ place. Some (corner_of w.to corner place))) (target_goes w b corner h)
 
@@ -54,7 +54,7 @@ lands to corner place = λ i. record {
 }
 
 -- a corner that stands at a place, with the marks of another one that stands where this place comes from, goes back to it
-pub home : (w : Way) (b : Bool) (corner : Corner) (place source : Position) → IsPlace place → place_goes (exposing (back w) b) place ≡ Some source →
+pub home : (w : RouteModel) (b : Bool) (corner : Corner) (place source : Position) → IsPlace place → place_goes (exposing (back w) b) place ≡ Some source →
     place_of w.from corner ≡ source →
     moved_corner (back w) b (corner_of w.to corner place) ≡ Some corner
 unfolding corner_to
@@ -133,7 +133,7 @@ axis_back a (inr is) m = subst (λ x. LinesBack (place_image x m.to) (place_imag
   returns = columns_by_lines m.from;
 })
 
-pub goes_back : (w : Way) → IsWay w → (b : Bool) → LinesBack (place_goes (exposing w b)) (place_goes (exposing (back w) b))
+pub goes_back : (w : RouteModel) → IsRoute w → (b : Bool) → LinesBack (place_goes (exposing w b)) (place_goes (exposing (back w) b))
 unfolding place_goes
 goes_back w is true = axis_back w.along is.axis.one_of w.moves
 goes_back w is false = record {
@@ -224,7 +224,7 @@ columns_in_order : (formula : Position) (first second : Corner) → are_in_order
 unfolding are_in_order
 columns_in_order formula first second h = second_false (are_rows_reversed formula first second) (are_columns_reversed formula first second) h
 
-module _ (w : Way) (is : IsWay w) (b : Bool) (first second : Corner) (r s : Position)
+module _ (w : RouteModel) (is : IsRoute w) (b : Bool) (first second : Corner) (r s : Position)
     (goes_first : place_goes (exposing w b) (place_of w.from first) ≡ Some r) (goes_second : place_goes (exposing w b) (place_of w.from second) ≡ Some s)
     (first_inside : is_inside w.from first ≡ true) (second_inside : is_inside w.from second ≡ true) where
   abbrev pub first_there : Corner
@@ -252,7 +252,7 @@ module _ (w : Way) (is : IsWay w) (b : Bool) (first second : Corner) (r s : Posi
   second_back = crossed rows_exchanged columns_exchanged second first
 
   image_of : (p q : Position) → IsPlace p → place_goes (exposing w b) p ≡ Some q → IsPlace q
-  image_of p q h e = let P : Option Position → Type 0 = λ o. IfSome o IsPlace in subst P e (goes_inside (exposing w b) (exposing_is_way w is b) p h)
+  image_of p q h e = let P : Option Position → Type 0 = λ o. IfSome o IsPlace in subst P e (goes_inside (exposing w b) (exposing_is_route w is b) p h)
 
   pub first_image : IsPlace r
   first_image = image_of (place_of w.from first) r (stands_inside w.from first first_inside) goes_first
@@ -261,7 +261,7 @@ module _ (w : Way) (is : IsWay w) (b : Bool) (first second : Corner) (r s : Posi
   second_image = image_of (place_of w.from second) s (stands_inside w.from second second_inside) goes_second
 
   source_of : (p q : Position) → place_goes (exposing w b) p ≡ Some q → place_goes (exposing (back w) b) q ≡ Some p
-  source_of p q e = (goes_inverse (exposing w b) (exposing_is_way w is b)).back p q e
+  source_of p q e = (goes_inverse (exposing w b) (exposing_is_route w is b)).back p q e
 
   lower_is : lower_there ≡ corner_of w.to first_back (mixed rows_exchanged columns_exchanged r s)
   unfolding lower_corner

@@ -8,35 +8,35 @@ use Rattle.base_axis.specs.Along.{Along, IsAxis}
 use Rattle.line_edits.specs.declared.EditKind.{EditKind}
 use Rattle.line_edits.specs.Edit.{IsValid, opposite_of}
 use Rattle.line_routes.specs.declared.tree_at.TreeAt.{TreeAt}
-use Rattle.line_routes.specs.EditWay.{edit_way}
+use Rattle.line_routes.specs.EditRoute.{edit_route}
 use Rattle.formula_tree.specs.declared.Node.{Node}
 use Rattle.line_routes.specs.contracts.tree_at.TreeAtPartialEq.TheImpl as equality
 use Rattle.line_routes.specs.MustKeep.{must_keep_between, must_keep_tree, must_keep_at, there_and_back}
-use Rattle.line_routes.specs.TreeAt.{tree_goes, tree_at_moved, tree_at_carried, tree_at_part, way_on_tree, way_of_tree, TreeAtLies}
+use Rattle.line_routes.specs.TreeAt.{tree_goes, tree_at_moved, tree_at_carried, tree_at_part, route_on_tree, route_of_tree, TreeAtLies}
 use Rattle.line_routes.specs.Trees.{target, is_exposed, tree_carried}
 use Rattle.line_routes.specs.Trial.{part_by_trial}
-use Rattle.line_routes.specs.Way.{Way, IsWay, back, place_goes}
-use Rattle.line_routes.specs.laws.WayLaws.{edit_is_way, goes_inverse}
+use Rattle.line_routes.specs.RouteModel.{RouteModel, IsRoute, back, place_goes}
+use Rattle.line_routes.specs.laws.RouteLaws.{edit_is_route, goes_inverse}
 use Rattle.line_routes.specs.laws.MustKeepLaws.{kept_exactly}
 use Rattle.line_routes.specs.laws.TreeAtEquals.{tree_at_equals}
 use Rattle.line_routes.specs.laws.TrialLaws.{trial_told}
 
 -- the opposite of an edit carries along as the way back does
-opposite_carries : (a : Along) (e : EditKind) (t : TreeAt) → tree_at_carried (edit_way a (opposite_of e)) t ≡ tree_at_carried (back (edit_way a e)) t
+opposite_carries : (a : Along) (e : EditKind) (t : TreeAt) → tree_at_carried (edit_route a (opposite_of e)) t ≡ tree_at_carried (back (edit_route a e)) t
 unfolding tree_at_carried tree_goes place_goes tree_carried target is_exposed
 opposite_carries a e t = refl
 
-module _ (w : Way) (is : IsWay w) (t : TreeAt) (lies : TreeAtLies t) where
-  comes_from : (to : Position) → tree_goes w t ≡ Some to → tree_goes (back w) (record t { node = tree_carried (way_of_tree w t to) t.node; place = to })
+module _ (w : RouteModel) (is : IsRoute w) (t : TreeAt) (lies : TreeAtLies t) where
+  comes_from : (to : Position) → tree_goes w t ≡ Some to → tree_goes (back w) (record t { node = tree_carried (route_of_tree w t to) t.node; place = to })
       ≡ Some t.place
   unfolding tree_goes
-  comes_from to h = (goes_inverse (way_on_tree w t) (record { axis = is.axis; one_to_one = is.one_to_one })).back t.place to h
+  comes_from to h = (goes_inverse (route_on_tree w t) (record { axis = is.axis; one_to_one = is.one_to_one })).back t.place to h
 
   abbrev returned : TreeAt
   returned = tree_at_carried (back w) (tree_at_carried w t)
 
   node_back : Position → Node
-  node_back to = tree_carried (back (way_of_tree w t to)) (tree_carried (way_of_tree w t to) t.node)
+  node_back to = tree_carried (back (route_of_tree w t to)) (tree_carried (route_of_tree w t to) t.node)
 
   returns : (to : Position) → tree_goes w t ≡ Some to → returned ≡ record t { node = node_back to }
   unfolding tree_at_carried node_back
@@ -46,7 +46,7 @@ module _ (w : Way) (is : IsWay w) (t : TreeAt) (lies : TreeAtLies t) where
 
   node_told : (to : Position) → Decides (not (must_keep_between w t (Some to))) (node_back to ≡ t.node)
   unfolding node_back
-  node_told to = kept_exactly (way_of_tree w t to) (record { axis = is.axis; one_to_one = is.one_to_one }) t.node lies.corners
+  node_told to = kept_exactly (route_of_tree w t to) (record { axis = is.axis; one_to_one = is.one_to_one }) t.node lies.corners
 
   told_at : (to : Position) → tree_goes w t ≡ Some to → Decides (not (must_keep_between w t (Some to))) (returned ≡ t)
   told_at to h =
@@ -68,10 +68,10 @@ module _ (w : Way) (is : IsWay w) (t : TreeAt) (lies : TreeAtLies t) where
       let same : returned.node ≡ node_back to = ap (λ (x : TreeAt). x.node) (returns to h) in
       Decides-like _ (λ s. same ∙ s) (λ s. sym same ∙ s) (node_told to)
 
-pub kept_alone : (a : Along) → IsAxis a → (e : EditKind) → IsValid a.last e → (t : TreeAt) → TreeAtLies t → is_some (tree_goes (edit_way a e) t) ≡ true →
+pub kept_alone : (a : Along) → IsAxis a → (e : EditKind) → IsValid a.last e → (t : TreeAt) → TreeAtLies t → is_some (tree_goes (edit_route a e) t) ≡ true →
     Decides (not (must_keep_at a e t)) ((there_and_back a e t).node ≡ t.node)
 unfolding must_keep_tree there_and_back
 kept_alone a lawful e valid t lies survives =
-    let w : Way = edit_way a e in
+    let w : RouteModel = edit_route a e in
     let opposite = ap (λ (x : TreeAt). x.node) (opposite_carries a e (tree_at_carried w t)) in
-    Decides-like _ (λ s. opposite ∙ s) (λ s. sym opposite ∙ s) (exact_at w (edit_is_way a lawful e valid) t lies (tree_goes w t) refl survives)
+    Decides-like _ (λ s. opposite ∙ s) (λ s. sym opposite ∙ s) (exact_at w (edit_is_route a lawful e valid) t lies (tree_goes w t) refl survives)

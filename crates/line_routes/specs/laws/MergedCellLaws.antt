@@ -9,9 +9,9 @@ use Rattle.base_axis.specs.contracts.merged_cell.MergedCellPartialEq.TheImpl as 
 use Rattle.base_axis.specs.laws.MergedEquals.{merged_equals}
 use Rattle.base_axis.specs.Rectangles.{IsInside}
 use Rattle.line_routes.specs.MergedCells.{between, moved_to, merged_cell_carried, merged_cell_part}
-use Rattle.line_routes.specs.Way.{Way, IsWay, back}
+use Rattle.line_routes.specs.RouteModel.{RouteModel, IsRoute, back}
 use Rattle.line_routes.specs.laws.TrialLaws.{trial_comes_back, trial_part}
-use Rattle.line_routes.specs.laws.WayLaws.{goes_inside}
+use Rattle.line_routes.specs.laws.RouteLaws.{goes_inside}
 
 -- the corners are its first and its last place, in either order
 pub between_inside : (p q : Position) → IsPlace p → IsPlace q → IsInside (between p q)
@@ -38,12 +38,12 @@ moved_inside cell h (Some p) None i j = h
 moved_inside cell h None w i j = h
 
 -- a rectangle that is carried along lies inside
-pub merged_cell_stays : (w : Way) → IsWay w → (cell : MergedCell) → IsInside cell → IsInside (merged_cell_carried w cell)
+pub merged_cell_stays : (w : RouteModel) → IsRoute w → (cell : MergedCell) → IsInside cell → IsInside (merged_cell_carried w cell)
 unfolding merged_cell_carried
 merged_cell_stays w is cell h = moved_inside cell h _ _ (goes_inside w is _ h.first) (goes_inside w is _ h.last)
 
-pub merged_cell_comes_back : (w : Way) (cell : MergedCell) → merged_cell_part w cell ≡ None → merged_cell_carried (back w) (merged_cell_carried w cell) ≡ cell
+pub merged_cell_comes_back : (w : RouteModel) (cell : MergedCell) → merged_cell_part w cell ≡ None → merged_cell_carried (back w) (merged_cell_carried w cell) ≡ cell
 merged_cell_comes_back w cell h = trial_comes_back equality.ghosts.eq merged_cell_carried merged_equals w cell h
 
-pub merged_cell_restores : (w : Way) (cell part : MergedCell) → merged_cell_part w cell ≡ Some part → part ≡ cell
+pub merged_cell_restores : (w : RouteModel) (cell part : MergedCell) → merged_cell_part w cell ≡ Some part → part ≡ cell
 merged_cell_restores w cell part h = trial_part equality.ghosts.eq merged_cell_carried w cell part h

@@ -14,11 +14,11 @@ use Rattle.line_edits.specs.Moves.{at_line, place_image}
 use Rattle.line_edits.specs.laws.Images.{move_image, move_parts}
 use Rattle.line_routes.specs.MustKeep.{keeps_reference, is_given_up, keeps_range, BecomesWhole, is_move}
 use Rattle.line_routes.specs.Trees.{corner_of, is_exposed, is_on_edited, moved_corner}
-use Rattle.line_routes.specs.Way.{Way, IsWay, place_goes}
+use Rattle.line_routes.specs.RouteModel.{RouteModel, IsRoute, place_goes}
 use Rattle.line_routes.specs.laws.CornersBack.{place_of, moved_goes, stands_inside}
 
 -- every line of the axis has an image
-abbrev pub LosesNone : Way → Type 0
+abbrev pub LosesNone : RouteModel → Type 0
 LosesNone w = (n : ℤ) → IsLine w.along.last n → is_some (w.moves.to n) ≡ true
 
 -- as under a move
@@ -36,7 +36,7 @@ and_parts a b h = (grind arith, grind arith)
 and_false : (a b : Bool) → b ≡ false → a && b ≡ false
 and_false a b h = grind arith
 
-module _ (w : Way) (is : IsWay w) (none : LosesNone w) where
+module _ (w : RouteModel) (is : IsRoute w) (none : LosesNone w) where
   put : (p : Position) (o : Option ℤ) → is_some o ≡ true → is_some (at_line w.along p o) ≡ true
   put p (Some n) h = refl
   put p None h = absurd (cc)
@@ -83,7 +83,7 @@ module _ (w : Way) (is : IsWay w) (none : LosesNone w) where
       becomes_at sheet first second parts.0 _ _ refl refl (corner_goes first inside.0) (corner_goes second inside.1) parts.1
 
 -- after a move of lines
-pub move_way_loses_none : (w : Way) (kind : EditKind) → is_move kind ≡ true → IsValid w.along.last kind → w.moves.to ≡ image_at w.along.last kind → LosesNone w
+pub move_way_loses_none : (w : RouteModel) (kind : EditKind) → is_move kind ≡ true → IsValid w.along.last kind → w.moves.to ≡ image_at w.along.last kind → LosesNone w
 move_way_loses_none w (Move first count delta) h valid moves = λ n line. ap (λ f. is_some (f n)) moves
     ∙ move_loses_none w.along.last first count delta n valid line
 move_way_loses_none w (Insert first count) h valid moves = absurd (cc)

@@ -21,12 +21,12 @@ use Rattle.formula_back.specs.laws.LeafLaws.{same_layers, TellsLeaves, tells_tre
 use Rattle.formula_back.specs.laws.StillLaws.{still_passes_none}
 use Rattle.line_routes.specs.MustKeep.{keeps_reference, is_given_up, keeps_range, kept_leaves, must_keep}
 use Rattle.line_routes.specs.Trees.{corner_of, is_exposed, is_on_edited, is_whole, moved_corner, following, tree_carried, tree_part, ComesBack, TreeLies}
-use Rattle.line_routes.specs.Way.{Way, IsWay, back, place_goes}
-use Rattle.line_routes.specs.laws.CornersBack.{place_of, exposing, exposing_is_way, moved_goes, home, lower_there, higher_there, first_image}
+use Rattle.line_routes.specs.RouteModel.{RouteModel, IsRoute, back, place_goes}
+use Rattle.line_routes.specs.laws.CornersBack.{place_of, exposing, exposing_is_route, moved_goes, home, lower_there, higher_there, first_image}
 use Rattle.line_routes.specs.laws.CornersBack.{lower_inside, higher_inside, lower_goes_back, higher_goes_back, lower_again, higher_again, order_stays}
 use Rattle.line_routes.specs.laws.CornersBack.{whole_rows_stay, whole_columns_stay}
 use Rattle.line_routes.specs.laws.TrialLaws.{trial_told}
-use Rattle.line_routes.specs.laws.WayLaws.{goes_inverse}
+use Rattle.line_routes.specs.laws.RouteLaws.{goes_inverse}
 
 record IsPlacedRange (place : Position) (first second : Corner) : Type 0 where
   first_inside : is_inside place first ≡ true
@@ -57,7 +57,7 @@ no_range a b sheet first second e = let same = same_layers (Node-F.Colon a b) (N
 no_true : {P : Type 0} (b : Bool) → b ≡ true → not b ≡ true → P
 no_true b h i = absurd (cc)
 
-module _ (w : Way) (is : IsWay w) where
+module _ (w : RouteModel) (is : IsRoute w) where
   -- a corner whose place goes nowhere is lost
   lost : (b : Bool) (corner : Corner) → is_inside w.from corner ≡ true → place_goes (exposing w b) (place_of w.from corner) ≡ None →
       moved_corner w b corner ≡ None
@@ -86,7 +86,7 @@ module _ (w : Way) (is : IsWay w) where
         ∙ ap (λ x. reference_to sheet (moved_corner (back w) x (corner_of w.to corner q))) on
         ∙ ap (reference_to sheet) (home w b corner q (place_of w.from corner)
         (first_image w is b corner corner q q goes goes inside inside)
-        ((goes_inverse (exposing w b) (exposing_is_way w is b)).back (place_of w.from corner) q goes) refl)
+        ((goes_inverse (exposing w b) (exposing_is_route w is b)).back (place_of w.from corner) q goes) refl)
 
     reference_lost : moved_corner w true corner ≡ None → reference_back true ≡ node.Error Ref
     unfolding reference_to
@@ -288,7 +288,7 @@ module _ (w : Way) (is : IsWay w) where
 not_whole : (a b : Bool) → a && not b ≡ true → b ≡ false
 not_whole a b h = grind arith
 
-module _ (w : Way) (sheet : Option (List ℕ)) where
+module _ (w : RouteModel) (sheet : Option (List ℕ)) where
   still_reference : (corner : Corner) (b : Bool) (o : Option Corner) → moved_corner w b corner ≡ o → reference_to sheet o ≡ node.Reference sheet corner →
       (b && is_none (moved_corner w true corner)) ≡ false
   unfolding reference_to
@@ -310,7 +310,7 @@ module _ (w : Way) (sheet : Option (List ℕ)) where
   still_range first second false exposed o p f g same = refl
 
 -- a tree that stays as it is has not to be kept
-pub still_is_not_kept : (w : Way) (tree : Node) → tree_carried w tree ≡ tree → must_keep w tree ≡ false
+pub still_is_not_kept : (w : RouteModel) (tree : Node) → tree_carried w tree ≡ tree → must_keep w tree ≡ false
 unfolding must_keep tree_carried keeps_reference keeps_range
 still_is_not_kept w tree = still_passes_none w.to (following w) (kept_leaves w) (record {
   reference = λ sheet corner. still_reference w sheet corner (is_on_edited w.is_edited w.edited sheet) _ refl;
@@ -319,5 +319,5 @@ still_is_not_kept w tree = still_passes_none w.to (following w) (kept_leaves w) 
 }) tree
 
 -- so nothing is kept of it
-pub still_has_no_part : (w : Way) → IsWay w → (tree : Node) → TreeLies w tree → tree_carried w tree ≡ tree → tree_part w tree ≡ None
+pub still_has_no_part : (w : RouteModel) → IsRoute w → (tree : Node) → TreeLies w tree → tree_carried w tree ≡ tree → tree_part w tree ≡ None
 still_has_no_part w is tree lies still = part_by_corners w is tree lies ∙ ap (λ b. if b then Some tree else None) (still_is_not_kept w tree still)

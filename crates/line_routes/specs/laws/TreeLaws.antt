@@ -16,7 +16,7 @@ use Rattle.formula_tree.specs.laws.PlacedLaws.{placed-moved}
 use Rattle.base_maps.specs.Carried.{if_there}
 use Rattle.line_edits.specs.Moves.{place_image}
 use Rattle.line_routes.specs.Trees.{corner_of, target, following, tree_carried, tree_part, TreeLies}
-use Rattle.line_routes.specs.Way.{Way, IsWay, back}
+use Rattle.line_routes.specs.RouteModel.{RouteModel, IsRoute, back}
 use Rattle.line_routes.specs.laws.TrialLaws.{trial_comes_back, trial_part}
 use Rattle.line_edits.specs.laws.PlaceLaws.{image_inside}
 
@@ -29,11 +29,11 @@ corner_inside : (place : Position) (corner : Corner) → IfSome (corner_at place
 unfolding corner_at is_inside
 corner_inside place corner = inside_at _ (corner_row place corner) (corner_column place corner) refl
 
-there_inside : (w : Way) → IsWay w → (o : Option Position) → IfSome o IsPlace → IfSome (if_there o (place_image w.along w.moves.to)) IsPlace
+there_inside : (w : RouteModel) → IsRoute w → (o : Option Position) → IfSome o IsPlace → IfSome (if_there o (place_image w.along w.moves.to)) IsPlace
 there_inside w is None h = tt
 there_inside w is (Some place) h = image_inside w.along is.axis w.moves is.one_to_one place h
 
-target_inside : (w : Way) → IsWay w → (exposed : Bool) (corner : Corner) → IfSome (target w exposed corner) IsPlace
+target_inside : (w : RouteModel) → IsRoute w → (exposed : Bool) (corner : Corner) → IfSome (target w exposed corner) IsPlace
 unfolding target
 target_inside w is true corner = there_inside w is (corner_at w.from corner) (corner_inside w.from corner)
 target_inside w is false corner = corner_inside w.from corner
@@ -52,7 +52,7 @@ landed to corner (Some place) h =
     ∙ are_lines place.row place.column h.0 h.1
 
 -- the corners of a tree that is carried along lie inside the sheet, and those of each range are in order
-pub tree_placed : (w : Way) → IsWay w → (tree : Node) → is_placed w.to (tree_carried w tree) ≡ true
+pub tree_placed : (w : RouteModel) → IsRoute w → (tree : Node) → is_placed w.to (tree_carried w tree) ≡ true
 unfolding tree_carried
 tree_placed w is tree = placed-moved true w.from w.to (following w) (record {
   reference = λ sheet corner _. landed w.to corner _ (target_inside w is _ corner);
@@ -60,11 +60,11 @@ tree_placed w is tree = placed-moved true w.from w.to (following w) (record {
   second = λ sheet first second _. landed w.to second _ (target_inside w is _ second);
 }) tree refl
 
-pub tree_stays : (w : Way) → IsWay w → (tree : Node) → TreeLies (back w) (tree_carried w tree)
+pub tree_stays : (w : RouteModel) → IsRoute w → (tree : Node) → TreeLies (back w) (tree_carried w tree)
 tree_stays w is tree = tree_placed w is tree
 
-pub tree_comes_back : (w : Way) (tree : Node) → tree_part w tree ≡ None → tree_carried (back w) (tree_carried w tree) ≡ tree
+pub tree_comes_back : (w : RouteModel) (tree : Node) → tree_part w tree ≡ None → tree_carried (back w) (tree_carried w tree) ≡ tree
 tree_comes_back w tree h = trial_comes_back (same_value the_row.coded) tree_carried (same_value_decides the_row.coded) w tree h
 
-pub tree_restores : (w : Way) (tree part : Node) → tree_part w tree ≡ Some part → part ≡ tree
+pub tree_restores : (w : RouteModel) (tree part : Node) → tree_part w tree ≡ Some part → part ≡ tree
 tree_restores w tree part h = trial_part (same_value the_row.coded) tree_carried w tree part h

@@ -9,7 +9,7 @@ use Rattle.std.specs.FinMap.{FinMap, entries, get}
 use Rattle.std.specs.declared.cmp.Ordering.{Ordering}
 use Rattle.base_values.specs.Answers.{map_ok}
 use Rattle.base_maps.specs.laws.Known.{entries_known, values_known}
-use Rattle.base_wire.specs.Spelling.{Any, Both}
+use Rattle.base_wire.specs.Encoding.{Any, Both}
 use Rattle.map_wire.specs.MapBytes.{FitsMap, Within}
 
 -- bytes can carry the entry where it is known

@@ -5,24 +5,24 @@ use Rattle.base_wire.specs.laws.Formats.{both_format, made_format}
 use Rattle.base_wire.specs.laws.Parts.{short_format}
 use Rattle.cell_wire.specs.laws.MergeLaws.{merge_format, merge_some}
 use Rattle.format_rules.specs.declared.ConditionalFormatting.{ConditionalFormatting}
-use Rattle.rule_wire.specs.FormattingBytes.{spell_areas, FitsAreas, spell_formatting, FitsFormatting, spell_formattings, FitsFormattings}
+use Rattle.rule_wire.specs.FormattingBytes.{encode_areas, FitsAreas, encode_formatting, FitsFormatting, encode_formattings, FitsFormattings}
 use Rattle.rule_wire.specs.laws.Reading.{areas_at, formatting_made, formatting_at, formattings_at}
 use Rattle.rule_wire.specs.laws.RuleLaws.{rule_format}
 
-areas_format : Format FitsAreas spell_areas areas_at
+areas_format : Format FitsAreas encode_areas areas_at
 unfolding areas_at
 areas_format = list_format merge_format merge_some
 
-pub formatting_format : Format FitsFormatting spell_formatting formatting_at
+pub formatting_format : Format FitsFormatting encode_formatting formatting_at
 unfolding formatting_at
 formatting_format =
     made_format (both_format areas_format (both_format rule_format short_format)) formatting_made
     (λ formatting. (formatting.parts, (formatting.rule, formatting.priority)))
     (λ formatting fits. (refl, (fits.parts, (fits.rule, fits.priority)))) (λ x fits. (refl, record { parts = fits.0; rule = fits.1.0; priority = fits.1.1 }))
 
-pub formatting_some : (formatting : ConditionalFormatting) → 1 ≤ length (spell_formatting formatting)
+pub formatting_some : (formatting : ConditionalFormatting) → 1 ≤ length (encode_formatting formatting)
 formatting_some formatting = omega arith
 
-pub formattings_format : Format FitsFormattings spell_formattings formattings_at
+pub formattings_format : Format FitsFormattings encode_formattings formattings_at
 unfolding formattings_at
 formattings_format = list_format formatting_format formatting_some

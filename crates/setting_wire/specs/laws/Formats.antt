@@ -8,20 +8,20 @@ use Rattle.base_tables.specs.declared.Zone.{Zone}
 use Rattle.base_tables.specs.declared.Zone.TheVariants.{Utc, EuropeBerlin, EuropeParis, EuropeMadrid, AmericaNewYork, AsiaTokyo}
 use Rattle.base_tables.specs.Zone.{all_zones, zone_code, zone_of_code}
 use Rattle.base_tables.specs.laws.Tables.{found_number}
-use Rattle.base_wire.specs.Spelling.{Any, Both}
+use Rattle.base_wire.specs.Encoding.{Any, Both}
 use Rattle.base_wire.specs.laws.Again.{coded_again}
 use Rattle.base_wire.specs.laws.Format.{Format}
 use Rattle.base_wire.specs.laws.Formats.{both_format, made_format}
 use Rattle.base_wire.specs.laws.Parts.{byte_format}
 use Rattle.base_wire.specs.laws.Refusals.{coded_plain}
-use Rattle.base_wire.specs.laws.Spelled.{coded_spelled}
-use Rattle.setting_wire.specs.TableBytes.{spell_locale, spell_zone}
+use Rattle.base_wire.specs.laws.Encoded.{coded_encoded}
+use Rattle.setting_wire.specs.TableBytes.{encode_locale, encode_zone}
 use Rattle.setting_wire.specs.laws.Reading.{locale_at, zone_at, rgb_at, rgb_made, theme_at, theme_made, Colors}
-use Rattle.setting_wire.specs.ThemeBytes.{spell_rgb, spell_theme, FitsRgb, FitsTheme}
+use Rattle.setting_wire.specs.ThemeBytes.{encode_rgb, encode_theme, FitsRgb, FitsTheme}
 
 -- ---- themes
 
-pub rgb_format : Format FitsRgb spell_rgb rgb_at
+pub rgb_format : Format FitsRgb encode_rgb rgb_at
 unfolding rgb_at
 rgb_format =
     made_format (both_format byte_format (both_format byte_format byte_format)) rgb_made (λ color. (color.red, (color.green, color.blue)))
@@ -50,8 +50,8 @@ theme_fits x fits = record {
   followed_hyperlink = fits.1.1.1.1.1.1.1.1.1.1.1;
 }
 
-pub theme_format : Format FitsTheme spell_theme theme_at
-unfolding spell_theme theme_at
+pub theme_format : Format FitsTheme encode_theme theme_at
+unfolding encode_theme theme_at
 theme_format =
     made_format
     (both_format rgb_format (both_format rgb_format (both_format rgb_format (both_format rgb_format
@@ -101,8 +101,8 @@ theme_format =
     ))
     (λ x fits. (refl, theme_fits x fits))
 
-pub theme_some : (x : Theme) → 1 ≤ length (spell_theme x)
-unfolding spell_theme
+pub theme_some : (x : Theme) → 1 ≤ length (encode_theme x)
+unfolding encode_theme
 theme_some x = omega arith
 
 -- ---- locales
@@ -113,11 +113,11 @@ locale_known locale.De = refl
 locale_known locale.Fr = refl
 locale_known locale.Es = refl
 
-pub locale_format : Format Any spell_locale locale_at
+pub locale_format : Format Any encode_locale locale_at
 unfolding locale_at
 locale_format = record {
   again = coded_again locale_code locale_of_code locale_known;
-  spelled = coded_spelled locale_code locale_of_code (found_number locale_code all_locales refl);
+  encoded = coded_encoded locale_code locale_of_code (found_number locale_code all_locales refl);
   plain = coded_plain locale_of_code;
 }
 
@@ -131,10 +131,10 @@ zone_known EuropeMadrid = refl
 zone_known AmericaNewYork = refl
 zone_known AsiaTokyo = refl
 
-pub zone_format : Format Any spell_zone zone_at
+pub zone_format : Format Any encode_zone zone_at
 unfolding zone_at
 zone_format = record {
   again = coded_again zone_code zone_of_code zone_known;
-  spelled = coded_spelled zone_code zone_of_code (found_number zone_code all_zones refl);
+  encoded = coded_encoded zone_code zone_of_code (found_number zone_code all_zones refl);
   plain = coded_plain zone_of_code;
 }

@@ -8,19 +8,19 @@ use Rattle.base_values.specs.Places.{position_cmp, is_place}
 use Rattle.base_values.specs.laws.Places.{position_total, exact_positions}
 use Rattle.base_maps.specs.Carried.{if_there}
 use Rattle.line_map.specs.Maps.{places_carried}
-use Rattle.line_routes.specs.Way.{Way, IsWay, at, back, place_goes}
+use Rattle.line_routes.specs.RouteModel.{RouteModel, IsRoute, at, back, place_goes}
 use Rattle.base_maps.specs.laws.CarriedLaws.{get-carried_map}
 use Rattle.line_map.specs.laws.MapLaws.{places_stay}
-use Rattle.line_routes.specs.laws.WayLaws.{goes_inverse}
+use Rattle.line_routes.specs.laws.RouteLaws.{goes_inverse}
 use Rattle.sheet_rules.specs.laws.EntryLaws.{passes_at_from_all, all_from_passes_at}
 use Rattle.sheet_rules.specs.laws.InsideLaws.{places_from_test, test_from_places}
 
-module _ (w : Way) (is : IsWay w) {F : Type 0} (carry : Way → F → F) where
+module _ (w : RouteModel) (is : IsRoute w) {F : Type 0} (carry : RouteModel → F → F) where
   -- its keys are places of the sheet
   pub places_follow : (m : FinMap position_cmp F) → list_all (λ e. is_place e.0) (entries m) ≡ true → list_all (λ e. is_place e.0) (entries (places_carried carry w m)) ≡ true
   places_follow m h =
       test_from_places (places_carried carry w m)
-      (places_stay w is carry (λ _ _. ⊤) (λ v way x lies. tt) m (record { places = places_from_test m h; items = λ p q x held there. tt })).places
+      (places_stay w is carry (λ _ _. ⊤) (λ v route_model x lies. tt) m (record { places = places_from_test m h; items = λ p q x held there. tt })).places
 
   -- and its items pass a test that each passes where it goes
   module _ (P : Position → F → Bool) (follows : (p q : Position) (x : F) → P p x ≡ true → P q (carry (at w p q) x) ≡ true) where

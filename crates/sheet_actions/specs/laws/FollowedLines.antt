@@ -11,7 +11,7 @@ use Rattle.base_maps.specs.Carried.{if_there}
 use Rattle.line_edits.specs.declared.Block.{Block}
 use Rattle.line_edits.specs.Moves.{is_brought}
 use Rattle.line_map.specs.Attributes.{heir, line_brought, line_goes_along, lines_carried}
-use Rattle.line_routes.specs.Way.{Way, IsWay}
+use Rattle.line_routes.specs.RouteModel.{RouteModel, IsRoute}
 use Rattle.sheet_lines.specs.laws.LinesAfter.{get-lines_carried}
 use Rattle.sheet_rules.specs.laws.EntryLaws.{passes_at_from_all, all_from_passes_at}
 
@@ -33,7 +33,7 @@ module _ {X : Type 0} (P : X → Bool) where
   heir_passes same (Some x) None h = refl
   heir_passes same (Some x) (Some y) h = either_passes (same x y) (Some x) None h refl
 
-  module _ (w : Way) (is : IsWay w) (b : Along) (same : X → X → Bool) (m : FinMap int_cmp X) where
+  module _ (w : RouteModel) (is : IsRoute w) (b : Along) (same : X → X → Bool) (m : FinMap int_cmp X) where
     brought_passes : (o : Option Block) → Passes m → passes (if_there o (line_brought b same m)) ≡ true
     brought_passes None all = refl
     brought_passes (Some block) all = let before : Option X = get m (block.first -ℤ pos 1) in
@@ -48,7 +48,7 @@ module _ {X : Type 0} (P : X → Bool) where
         (either_passes (is_brought w.moves.inserted n && is_line b.last n) _ _ (brought_passes w.moves.inserted all) (came_passes (w.moves.from n) all)) (all n)
 
   -- a test of all that lines have
-  pub values_follow : (w : Way) → IsWay w → (b : Along) (same : X → X → Bool) (m : FinMap int_cmp X) → list_all (λ e. P e.1) (entries m) ≡ true →
+  pub values_follow : (w : RouteModel) → IsRoute w → (b : Along) (same : X → X → Bool) (m : FinMap int_cmp X) → list_all (λ e. P e.1) (entries m) ≡ true →
       list_all (λ e. P e.1) (entries (lines_carried b same w m)) ≡ true
   values_follow w is b same m h = all_from_passes_at int_cmp int_cmp_total int_cmp-IsAntisymmetric (λ _. passes) (λ _. refl) (lines_carried b same w m)
       (carried_passes w is b same m (passes_at_from_all int_cmp int_cmp_total int_cmp-IsAntisymmetric (λ _. passes) (λ _. refl) m h))

@@ -21,9 +21,9 @@ use Rattle.format_rules.specs.RuleTrees.{cfvo_passes, each_tree, cfvo_changed, c
 use Rattle.format_rules.specs.laws.RuleTreeLaws.{left, right, both}
 use Rattle.line_routes.specs.MergedCells.{merged_cell_carried}
 use Rattle.line_routes.specs.Trees.{tree_carried}
-use Rattle.line_routes.specs.Way.{Way, IsWay}
+use Rattle.line_routes.specs.RouteModel.{RouteModel, IsRoute}
 use Rattle.line_routes.specs.laws.MergedCellLaws.{merged_cell_stays}
-use Rattle.line_map.specs.Rules.{at_part, way_of_trees, formatting_moved, formatting_carried}
+use Rattle.line_map.specs.Rules.{at_part, route_of_trees, formatting_moved, formatting_carried}
 use Rattle.sheet_grid.specs.Sheet.{Sheet}
 use Rattle.sheet_rules.specs.WellFormed.{have_rule_trees, have_rule_parts}
 use Rattle.sheet_lines.specs.Followed.{sheet_followed}
@@ -84,7 +84,7 @@ module _ (test later : Node → Bool) (change : Node → Node) (step : (tree : N
   trees_follow (IconSet icons thresholds show) h = icons_follow thresholds h
   trees_follow (IconRating icon color thresholds show) h = icons_follow thresholds h
 
-module _ (w : Way) (is : IsWay w) where
+module _ (w : RouteModel) (is : IsRoute w) where
   -- ---- one rule
 
   -- a tree of a rule without parts is as deep as before, with the same numbers
@@ -95,10 +95,10 @@ module _ (w : Way) (is : IsWay w) where
       (numbers_carried w tree ∙ right (is_within 64 tree) (has_no_negative_number tree) h)
 
   moved_trees : (parts : List MergedCell) (rule : CfRule) → each_tree (tree_fits (place_of parts)) rule ≡ true →
-      each_tree (tree_fits (place_of (map (merged_cell_carried w) parts))) (trees_changed (tree_carried (way_of_trees w parts)) rule) ≡ true
+      each_tree (tree_fits (place_of (map (merged_cell_carried w) parts))) (trees_changed (tree_carried (route_of_trees w parts)) rule) ≡ true
   moved_trees [] rule h = trees_follow (tree_fits None) (tree_fits None) (tree_carried w) shallow_follows rule h
   moved_trees (first ∷ others) rule h =
-      let there : Way = at_part w first in
+      let there : RouteModel = at_part w first in
       trees_follow (tree_fits (Some there.from)) (tree_fits (Some there.to)) (tree_carried there)
       (tree_still_fits there (record { axis = is.axis; one_to_one = is.one_to_one })) rule h
 

@@ -26,8 +26,8 @@ use Rattle.line_edits.specs.laws.OneToOne.{edit_one_to_one}
 use Rattle.line_map.specs.Contents.{content_carried, cell_carried}
 use Rattle.line_routes.specs.Merges.{merge_carried, merges_carried}
 use Rattle.line_routes.specs.Trees.{tree_carried}
-use Rattle.line_routes.specs.Way.{Way, IsWay, at, back, place_goes}
-use Rattle.line_routes.specs.laws.WayLaws.{goes_inverse}
+use Rattle.line_routes.specs.RouteModel.{RouteModel, IsRoute, at, back, place_goes}
+use Rattle.line_routes.specs.laws.RouteLaws.{goes_inverse}
 use Rattle.sheet_grid.specs.declared.Cell.{Cell}
 use Rattle.sheet_grid.specs.Arrays.{array_at, large_array_at, where_large}
 use Rattle.sheet_grid.specs.Merges.{is_empty}
@@ -38,7 +38,7 @@ use Rattle.sheet_rules.specs.laws.ArraysIn.{array_in}
 use Rattle.sheet_rules.specs.laws.EntryLaws.{both}
 use Rattle.sheet_rules.specs.laws.ShownLaws.{neither, not_true, none_in}
 use Rattle.sheet_rules.specs.laws.OccupiedLaws.{KeepsArrays, keeps_arrays, have_arrays_from, KeepsMerges, keeps_merges, have_merges_from, keeps_hidden, are_hidden_blank_from}
-use Rattle.sheet_lines.specs.Followed.{way_of, sheet_followed}
+use Rattle.sheet_lines.specs.Followed.{route_of, sheet_followed}
 use Rattle.sheet_actions.specs.GreatestLine.{greatest_line}
 use Rattle.sheet_actions.specs.Planned.{splits_rectangle}
 use Rattle.sheet_actions.specs.Whole.{moves_part, has_no_room, LeavesWhole}
@@ -51,7 +51,7 @@ use Rattle.sheet_actions.specs.laws.FollowedRectangles.{Came, Shown, HasFollowed
 -- ---- what cells show, carried along
 
 -- the array of a content goes where the content goes
-array_carried : (w : Way) (p q : Position) (content : Content) → array_at q (content_carried w content) ≡ option_map (placed_at q) (array_at p content)
+array_carried : (w : RouteModel) (p q : Position) (content : Content) → array_at q (content_carried w content) ≡ option_map (placed_at q) (array_at p content)
 array_carried w p q Empty = refl
 array_carried w p q (Number number) = refl
 array_carried w p q (Boolean truth) = refl
@@ -88,7 +88,7 @@ same_size : (q : Position) (r : MergedCell) → has_many (placed_at q r) ≡ has
 unfolding has_many
 same_size q r = refl
 
-module _ (w : Way) (is : IsWay w) (came : Position → Position) (sheet : Sheet) where
+module _ (w : RouteModel) (is : IsRoute w) (came : Position → Position) (sheet : Sheet) where
   abbrev after : Sheet
   after = sheet_followed w sheet
 
@@ -217,11 +217,11 @@ pub record KeepsRectangles (sheet : Sheet) : Type 0 where
   pub hidden : are_hidden_blank sheet ≡ true
 
 module _ (a : Along) (is : IsAxis a) (kind : EditKind) (valid : IsValid a.last kind) (id : ℕ) (edited : List ℕ) (sheet : Sheet) (rules : KeepsRectangles sheet) where
-  abbrev w : Way
-  w = way_of a (edit_moves a.last kind) id edited sheet
+  abbrev w : RouteModel
+  w = route_of a (edit_moves a.last kind) id edited sheet
 
-  is_way : IsWay w
-  is_way = record { axis = is; one_to_one = edit_one_to_one a.last kind valid }
+  is_route : IsRoute w
+  is_route = record { axis = is; one_to_one = edit_one_to_one a.last kind valid }
 
   abbrev there : Sheet
   there = sheet_followed w sheet
@@ -286,7 +286,7 @@ module _ (a : Along) (is : IsAxis a) (kind : EditKind) (valid : IsValid a.last k
     other_keeps : KeepsRectangles there
     other_keeps =
         keeps (λ p. p) same_place is_merge Some
-        (has_followed w is_way (λ p. p) sheet array_stays is_merge Some merges.merges merges_same
+        (has_followed w is_route (λ p. p) sheet array_stays is_merge Some merges.merges merges_same
         (λ r s good goes. subst (Follows (place_goes w) (λ p. p) r) (some_is r s goes) (itself r (merge_inside r good)))
         (λ r s good goes. ap is_merge (sym (some_is r s goes)) ∙ good))
 
@@ -415,7 +415,7 @@ module _ (a : Along) (is : IsAxis a) (kind : EditKind) (valid : IsValid a.last k
     edited_keeps : KeepsRectangles there
     edited_keeps =
         keeps (source_place a kind) comes good (merge_carried w)
-        (has_followed w is_way (source_place a kind) sheet array_goes good (merge_carried w)
+        (has_followed w is_route (source_place a kind) sheet array_goes good (merge_carried w)
         (all_fine is_merge (moves_some kind) sheet.merges merges.merges (none_moves kind whole.merges)) merges_go merge_goes merge_left)
 
   -- a sheet keeps the rules of arrays, merges and what these cover, unless it is edited and not left whole

@@ -18,10 +18,10 @@ use Rattle.cell_content.specs.laws.FittingLaws.{changed_fits}
 use Rattle.line_map.specs.Attributes.{lines_carried}
 use Rattle.line_map.specs.Contents.{content_carried, cell_carried}
 use Rattle.line_routes.specs.Trees.{following, tree_carried}
-use Rattle.line_routes.specs.Way.{Way, IsWay, at}
+use Rattle.line_routes.specs.RouteModel.{RouteModel, IsRoute, at}
 use Rattle.line_map.specs.laws.AttributeLaws.{lines_stay}
 use Rattle.line_routes.specs.laws.TreeLaws.{tree_placed}
-use Rattle.line_routes.specs.laws.WayLaws.{at_is_way}
+use Rattle.line_routes.specs.laws.RouteLaws.{at_is_route}
 use Rattle.sheet_grid.specs.contracts.line_attr.LineAttrPartialEq.TheImpl as attribute
 use Rattle.sheet_grid.specs.declared.LineAttr.{LineAttr}
 use Rattle.sheet_grid.specs.Sheet.{Sheet}
@@ -38,26 +38,26 @@ pub pass : (a b : Bool) → a ≡ true → b ≡ true → a && b ≡ true
 pass a b p q = grind arith
 
 -- a tree that is carried along is as deep as before
-pub within_carried : (w : Way) (most : ℕ) (tree : Node) → is_within most (tree_carried w tree) ≡ is_within most tree
+pub within_carried : (w : RouteModel) (most : ℕ) (tree : Node) → is_within most (tree_carried w tree) ≡ is_within most tree
 unfolding is_within tree_carried
 within_carried w most tree = ap (λ depth. nat_le depth most) (depth-moved w.to (following w) tree)
 
-pub numbers_carried : (w : Way) (tree : Node) → has_no_negative_number (tree_carried w tree) ≡ has_no_negative_number tree
+pub numbers_carried : (w : RouteModel) (tree : Node) → has_no_negative_number (tree_carried w tree) ≡ has_no_negative_number tree
 unfolding tree_carried
 numbers_carried w tree = numbers-moved _ w.to (following w) tree
 
 -- and it may stand where it goes
-pub tree_fits : (w : Way) → IsWay w → (tree : Node) → tree_fits_at w.from tree ≡ true → tree_fits_at w.to (tree_carried w tree) ≡ true
+pub tree_fits : (w : RouteModel) → IsRoute w → (tree : Node) → tree_fits_at w.from tree ≡ true → tree_fits_at w.to (tree_carried w tree) ≡ true
 unfolding tree_fits_at
 tree_fits w is tree fits =
     let tests = both (is_placed w.from tree && is_within 64 tree) (has_no_negative_number tree) fits in
     let shape = both (is_placed w.from tree) (is_within 64 tree) tests.0 in
     pass _ _ (pass _ _ (tree_placed w is tree) (within_carried w 64 tree ∙ shape.1)) (numbers_carried w tree ∙ tests.1)
 
-content_fits : (w : Way) → IsWay w → (content : Content) → fits_at w.from content ≡ true → fits_at w.to (content_carried w content) ≡ true
+content_fits : (w : RouteModel) → IsRoute w → (content : Content) → fits_at w.from content ≡ true → fits_at w.to (content_carried w content) ≡ true
 content_fits w is = changed_fits (tree_carried w) w.from w.to (tree_fits w is)
 
-module _ (w : Way) (is : IsWay w) where
+module _ (w : RouteModel) (is : IsRoute w) where
   -- the lines that have something are lines of the sheet
   lines_follow : (b : Along) → IsAxis b → (m : FinMap int_cmp LineAttr) → list_all (λ e. is_line b.last e.0) (entries m) ≡ true → list_all (λ e. is_line b.last e.0) (entries (lines_carried b attribute.ghosts.eq w m)) ≡ true
   lines_follow b lawful m h = test_from_lines b.last (lines_carried b attribute.ghosts.eq w m) (lines_stay w is b lawful attribute.ghosts.eq m (lines_from_test b.last m h))
@@ -75,7 +75,7 @@ module _ (w : Way) (is : IsWay w) where
     -- its formulas may stand where they go
     pub trees_stay : have_trees sheet ≡ true → have_trees (sheet_followed w sheet) ≡ true
     unfolding have_trees
-    trees_stay h = items_follow w is cell_carried (λ p cell. fits_at p cell.content) (λ p q cell fits. content_fits (at w p q) (at_is_way w is p q) cell.content fits) sheet.cells h
+    trees_stay h = items_follow w is cell_carried (λ p cell. fits_at p cell.content) (λ p q cell fits. content_fits (at w p q) (at_is_route w is p q) cell.content fits) sheet.cells h
 
     -- what its rows and columns have, and the fonts of its cells, are as the rules want them
     pub attributes_stay : have_attributes sheet ≡ true → have_attributes (sheet_followed w sheet) ≡ true

@@ -9,7 +9,7 @@ use Rattle.sheet_grid.specs.Book.{Book}
 use Rattle.line_edits.specs.declared.EditKind.{EditKind}
 use Rattle.line_edits.specs.Edit.{IsValid}
 use Rattle.line_edits.specs.Moves.{LineMoves, edit_moves}
-use Rattle.line_routes.specs.Way.{IsWay}
+use Rattle.line_routes.specs.RouteModel.{IsRoute}
 use Rattle.line_edits.specs.laws.OneToOne.{edit_one_to_one}
 use Rattle.sheet_rules.specs.Names.{are_names}
 use Rattle.sheet_rules.specs.SheetNames.{is_sheet_name}
@@ -17,7 +17,7 @@ use Rattle.sheet_rules.specs.laws.EntryLaws.{both}
 use Rattle.sheet_rules.specs.WellFormed.{are_distinct, ids_of, names_of, are_sheets, stands_inside, have_trees, have_rule_trees, have_attributes, are_frozen, have_rule_parts, IsWellFormed}
 use Rattle.sheet_rules.specs.laws.WellFormedLaws.{well_formed_parts, well_formed_from_parts, distinct_ids_from_well_formed}
 use Rattle.sheet_rules.specs.Occupied.{have_arrays, have_merges, are_hidden_blank}
-use Rattle.sheet_lines.specs.Followed.{edited_way, way_of, sheet_followed, sheets_followed, book_followed}
+use Rattle.sheet_lines.specs.Followed.{edited_route, route_of, sheet_followed, sheets_followed, book_followed}
 use Rattle.sheet_ids.specs.Ids.{sheet_of, name_of}
 use Rattle.sheet_actions.specs.Whole.{LeavesWhole, IsAllowed}
 use Rattle.sheet_actions.specs.laws.FollowedShapes.{KeepsRectangles, rectangles_stay}
@@ -48,19 +48,19 @@ all_keep f Q h (sheet ∷ sheets) asked kept =
     record { arrays = pass _ _ first.arrays rest.arrays; merges = pass _ _ first.merges rest.merges; hidden = pass _ _ first.hidden rest.hidden }
 
 module _ (a : Along) (m : LineMoves) (id : ℕ) (edited : List ℕ) where
-  same_count : (sheets : List Sheet) → length (sheets_followed (edited_way a m id edited) sheets) ≡ length sheets
+  same_count : (sheets : List Sheet) → length (sheets_followed (edited_route a m id edited) sheets) ≡ length sheets
   same_count [] = refl
   same_count (sheet ∷ sheets) = ap suc (same_count sheets)
 
-  same_ids : (sheets : List Sheet) → ids_of (sheets_followed (edited_way a m id edited) sheets) ≡ ids_of sheets
+  same_ids : (sheets : List Sheet) → ids_of (sheets_followed (edited_route a m id edited) sheets) ≡ ids_of sheets
   same_ids [] = refl
   same_ids (sheet ∷ sheets) = λ i. sheet.id ∷ same_ids sheets i
 
-  same_names : (sheets : List Sheet) → names_of (sheets_followed (edited_way a m id edited) sheets) ≡ names_of sheets
+  same_names : (sheets : List Sheet) → names_of (sheets_followed (edited_route a m id edited) sheets) ≡ names_of sheets
   same_names [] = refl
   same_names (sheet ∷ sheets) = λ i. sheet.name ∷ same_names sheets i
 
-  sheets_stay : (sheets : List Sheet) → are_sheets (sheets_followed (edited_way a m id edited) sheets) ≡ are_sheets sheets
+  sheets_stay : (sheets : List Sheet) → are_sheets (sheets_followed (edited_route a m id edited) sheets) ≡ are_sheets sheets
   unfolding are_sheets
   sheets_stay sheets = λ i.
       nat_lt 0 (same_count sheets i) && are_distinct (λ m n. m == n) (same_ids sheets i) && list_all is_sheet_name (same_names sheets i) && are_distinct same_folded (same_names sheets i)
@@ -70,8 +70,8 @@ pub followed_well_formed : (a : Along) → IsAxis a → (e : EditKind) → IsVal
 followed_well_formed a lawful e valid id book h allowed =
     let m : LineMoves = edit_moves a.last e in
     let edited : List ℕ = name_of (sheet_of book id) in
-    let f : Sheet → Sheet = λ sheet. sheet_followed (way_of a m id edited sheet) sheet in
-    let is : (sheet : Sheet) → IsWay (way_of a m id edited sheet) = λ sheet. record { axis = lawful; one_to_one = edit_one_to_one a.last e valid } in
+    let f : Sheet → Sheet = λ sheet. sheet_followed (route_of a m id edited sheet) sheet in
+    let is : (sheet : Sheet) → IsRoute (route_of a m id edited sheet) = λ sheet. record { axis = lawful; one_to_one = edit_one_to_one a.last e valid } in
     let rules = well_formed_parts book h in
     let kept = all_keep f (λ sheet. (sheet.id == id) ≡ true → LeavesWhole a e sheet) (λ sheet whole keeps. rectangles_stay a lawful e valid id edited sheet keeps whole) book.worksheets
     (each_of_id (LeavesWhole a e) id book.worksheets (distinct_ids_from_well_formed book h) allowed)
@@ -79,15 +79,15 @@ followed_well_formed a lawful e valid id book h allowed =
     well_formed_from_parts (book_followed a e id book)
     (record {
       sheets = sheets_stay a m id edited book.worksheets ∙ rules.sheets;
-      inside = all_follow stands_inside f (λ sheet. inside_stay (way_of a m id edited sheet) (is sheet) sheet) book.worksheets rules.inside;
+      inside = all_follow stands_inside f (λ sheet. inside_stay (route_of a m id edited sheet) (is sheet) sheet) book.worksheets rules.inside;
       arrays = kept.arrays;
       merges = kept.merges;
       hidden = kept.hidden;
-      trees = all_follow have_trees f (λ sheet. trees_stay (way_of a m id edited sheet) (is sheet) sheet) book.worksheets rules.trees;
-      rule_trees = all_follow have_rule_trees f (λ sheet. rule_trees_stay (way_of a m id edited sheet) (is sheet) sheet) book.worksheets rules.rule_trees;
+      trees = all_follow have_trees f (λ sheet. trees_stay (route_of a m id edited sheet) (is sheet) sheet) book.worksheets rules.trees;
+      rule_trees = all_follow have_rule_trees f (λ sheet. rule_trees_stay (route_of a m id edited sheet) (is sheet) sheet) book.worksheets rules.rule_trees;
       name_trees = rules.name_trees;
-      attributes = all_follow have_attributes f (λ sheet. attributes_stay (way_of a m id edited sheet) (is sheet) sheet) book.worksheets rules.attributes;
+      attributes = all_follow have_attributes f (λ sheet. attributes_stay (route_of a m id edited sheet) (is sheet) sheet) book.worksheets rules.attributes;
       names = ap (λ ids. are_names ids book.names) (same_ids a m id edited book.worksheets) ∙ rules.names;
       frozen = all_follow are_frozen f (λ _ frozen. frozen) book.worksheets rules.frozen;
-      rule_parts = all_follow have_rule_parts f (λ sheet. rule_parts_stay (way_of a m id edited sheet) (is sheet) sheet) book.worksheets rules.rule_parts;
+      rule_parts = all_follow have_rule_parts f (λ sheet. rule_parts_stay (route_of a m id edited sheet) (is sheet) sheet) book.worksheets rules.rule_parts;
     })

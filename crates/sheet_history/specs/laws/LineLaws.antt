@@ -35,10 +35,10 @@ use Rattle.line_map.specs.Maps.{places_carried}
 use Rattle.line_routes.specs.Merges.{merges_carried, merges_part}
 use Rattle.line_routes.specs.Trial.{comes_back, part_by_trial}
 use Rattle.line_edits.specs.Moves.{at_line, edit_moves, place_image}
-use Rattle.line_routes.specs.Way.{Way, at, back, place_goes}
+use Rattle.line_routes.specs.RouteModel.{RouteModel, at, back, place_goes}
 use Rattle.base_maps.specs.laws.Gathering.{get-lost_map}
 use Rattle.base_maps.specs.laws.CarriedLaws.{get-carried_map}
-use Rattle.line_routes.specs.laws.WayLaws.{goes_inverse}
+use Rattle.line_routes.specs.laws.RouteLaws.{goes_inverse}
 use Rattle.rule_edits.specs.RuleChanges as rule_changes
 use Rattle.line_map.specs.Rules.{are_there, formatting_carried, formatting_part, rules_kept}
 use Rattle.base_maps.specs.laws.ByIndexLaws.{kept_are, kept_within}
@@ -56,7 +56,7 @@ use Rattle.sheet_rules.specs.WellFormed.{stands_inside, IsWellFormed}
 use Rattle.sheet_rules.specs.laws.WellFormedLaws.{cells_fit_from_trees, distinct_ids_from_well_formed}
 use Rattle.sheet_lines.specs.declared.KeptLines.{KeptLines}
 use Rattle.sheet_ids.specs.Ids.{sheet_of, name_of}
-use Rattle.sheet_lines.specs.Followed.{way_of, book_way, sheet_followed, book_followed}
+use Rattle.sheet_lines.specs.Followed.{route_of, book_route, sheet_followed, book_followed}
 use Rattle.sheet_lines.specs.Kept.{lines_of, edited_kept, kept_lines}
 use Rattle.sheet_lines.specs.Back.{book_back}
 use Rattle.sheet_lines.specs.laws.Regained.{book_regained, formulas_at}
@@ -99,26 +99,26 @@ either_inside true merges all = refl
 either_inside false merges all = all
 
 -- what is kept of merges that lie inside does too
-part_inside : (w : Way) (merges : List MergedCell) → list_all is_inside merges ≡ true → merges_inside (merges_part w merges) ≡ true
+part_inside : (w : RouteModel) (merges : List MergedCell) → list_all is_inside merges ≡ true → merges_inside (merges_part w merges) ≡ true
 unfolding part_by_trial
 part_inside w merges all = either_inside (comes_back equality.ghosts.eq merges_carried w merges) merges all
 
 -- ---- kept conditional rules
 
 -- what is kept of a rule is the rule
-part_known : (P : ConditionalFormatting → Type 0) (w : Way) (formatting : ConditionalFormatting) → P formatting → (o : Option ConditionalFormatting) → formatting_part w formatting ≡ o → IfSome o P
+part_known : (P : ConditionalFormatting → Type 0) (w : RouteModel) (formatting : ConditionalFormatting) → P formatting → (o : Option ConditionalFormatting) → formatting_part w formatting ≡ o → IfSome o P
 part_known P w formatting h None is = tt
 part_known P w formatting h (Some part) is = subst P (sym (formatting_restores w formatting part is)) h
 
 -- so what holds of each rule holds of each that is kept
-kept_known : (P : ConditionalFormatting → Type 0) (w : Way) (rules : List ConditionalFormatting) → AllByRecursion P rules → (q : ℕ) → IfSome (get (rules_kept w rules) q) P
+kept_known : (P : ConditionalFormatting → Type 0) (w : RouteModel) (rules : List ConditionalFormatting) → AllByRecursion P rules → (q : ℕ) → IfSome (get (rules_kept w rules) q) P
 kept_known P w rules all q = kept_are (formatting_part w) P P (λ rule h. part_known P w rule h (formatting_part w rule) refl) rules all q
 
 known_at : (P : ConditionalFormatting → Type 0) (o : Option ConditionalFormatting) (formatting : ConditionalFormatting) → o ≡ Some formatting → IfSome o P → P formatting
 known_at P None formatting is h = absurd (cc)
 known_at P (Some other) formatting is h = let same : other ≡ formatting = cc in subst P same h
 
-module _ (w : Way) (rules : List ConditionalFormatting) where
+module _ (w : RouteModel) (rules : List ConditionalFormatting) where
   -- a test that each rule passes
   kept_pass : (test : ConditionalFormatting → Bool) → list_all test rules ≡ true → list_all (λ (entry : ℕ × ConditionalFormatting). test entry.1) (entries (rules_kept w rules)) ≡ true
   kept_pass test all = all_entries nat_cmp nat_cmp_total exact_unsigned (λ (entry : ℕ × ConditionalFormatting). test entry.1) (rules_kept w rules) (λ q formatting found.
@@ -169,16 +169,16 @@ place_inside a first count q p h = go (image_at a.last (Insert first count) (a.l
 
 module _ (a : Along) (l : IsAxis a) (e : EditKind) (valid : IsValid a.last e) (id : ℕ) where
   -- how the edit meets a sheet
-  abbrev way_on : List ℕ → Sheet → Way
-  way_on edited sheet = way_of a (edit_moves a.last e) id edited sheet
+  abbrev route_on : List ℕ → Sheet → RouteModel
+  route_on edited sheet = route_of a (edit_moves a.last e) id edited sheet
 
   -- no cell of the later sheet is pushed past the end when the lines come back
-  back_inside : (edited : List ℕ) (sheet : Sheet) → (sheet.id == id) ≡ true → (kind : EditKind) → e ≡ kind → stays_inside a (opposite_of kind) (sheet_followed (way_on edited sheet) sheet) ≡ true
+  back_inside : (edited : List ℕ) (sheet : Sheet) → (sheet.id == id) ≡ true → (kind : EditKind) → e ≡ kind → stays_inside a (opposite_of kind) (sheet_followed (route_on edited sheet) sheet) ≡ true
   unfolding stays_inside opposite_of place_goes
   back_inside edited sheet it (Insert first count) is = refl
   back_inside edited sheet it (Move first count delta) is = refl
   back_inside edited sheet it (Delete first count) is =
-      let w : Way = way_on edited sheet in
+      let w : RouteModel = route_on edited sheet in
       let came : Position → Option Position = place_image a (image_at a.last (opposite_of e)) in
       all_entries position_cmp position_total exact_positions (λ (entry : Position × Cell). not (is_pushed_past a first count entry.0)) (places_carried cell_carried w sheet.cells) (λ q cell found.
       let from = comes_from q cell sheet.cells (place_goes (back w) q)
@@ -186,7 +186,7 @@ module _ (a : Along) (l : IsAxis a) (e : EditKind) (valid : IsValid a.last e) (i
       let there : came q ≡ Some from.0 = sym (ap (λ b. if b then came q else Some q) it) ∙ from.1 in
       place_inside a first count q from.0 (sym (ap (λ k. place_image a (image_at a.last (opposite_of k)) q) is) ∙ there))
     where
-      comes_from : (q : Position) (cell : Cell) (cells : FinMap position_cmp Cell) (o : Option Position) → if_there o (λ p. if_there (get cells p) (λ x. Some (cell_carried (at (way_on edited sheet) p q) x))) ≡ Some cell
+      comes_from : (q : Position) (cell : Cell) (cells : FinMap position_cmp Cell) (o : Option Position) → if_there o (λ p. if_there (get cells p) (λ x. Some (cell_carried (at (route_on edited sheet) p q) x))) ≡ Some cell
           → (p : Position) × (o ≡ Some p)
       comes_from q cell cells None h = absurd (cc)
       comes_from q cell cells (Some p) h = (p, refl)
@@ -201,8 +201,8 @@ module _ (a : Along) (l : IsAxis a) (e : EditKind) (valid : IsValid a.last e) (i
 
   -- the sheets of the later workbook, found by their ids
   followed_found : (edited : List ℕ) (n : ℕ) (sheets : List Sheet) (sheet : Sheet) → find (λ s. s.id == n) sheets ≡ Some sheet
-      → find (λ s. s.id == n) (map (λ s. sheet_followed (way_on edited s) s) sheets) ≡ Some (sheet_followed (way_on edited sheet) sheet)
-  followed_found edited n sheets sheet = found_same (λ (s : Sheet). sheet_followed (way_on edited s) s) (λ (s : Sheet). s.id == n) (λ (s : Sheet). s.id == n) (λ s. refl) sheets sheet
+      → find (λ s. s.id == n) (map (λ s. sheet_followed (route_on edited s) s) sheets) ≡ Some (sheet_followed (route_on edited sheet) sheet)
+  followed_found edited n sheets sheet = found_same (λ (s : Sheet). sheet_followed (route_on edited s) s) (λ (s : Sheet). s.id == n) (λ (s : Sheet). s.id == n) (λ s. refl) sheets sheet
 
   module _ (book : Book) (rules : IsWellFormed book) where
     abbrev kept : KeptLines
@@ -211,8 +211,8 @@ module _ (a : Along) (l : IsAxis a) (e : EditKind) (valid : IsValid a.last e) (i
     abbrev later : Book
     later = book_followed a e id book
 
-    abbrev way_in : Sheet → Way
-    way_in sheet = way_on (name_of (sheet_of book id)) sheet
+    abbrev route_in : Sheet → RouteModel
+    route_in sheet = route_on (name_of (sheet_of book id)) sheet
 
     sheet_fits : (n : ℕ) (s : Sheet) → sheet_of book n ≡ Some s → CellsFit s
     sheet_fits n s h = cells_fit_from_trees s (sheet_rules book rules n s h).trees
@@ -224,31 +224,31 @@ module _ (a : Along) (l : IsAxis a) (e : EditKind) (valid : IsValid a.last e) (i
     record IsOfSheet (key : SheetPlace) (tree : Node) : Type 0 where
       sheet : Sheet
       found : sheet_of book key.sheet ≡ Some sheet
-      it : IsTreeThere (way_in sheet) sheet.cells key.place tree
+      it : IsTreeThere (route_in sheet) sheet.cells key.place tree
 
     of_sheet_at : (key : SheetPlace) (tree : Node) (o : Option Sheet) → sheet_of book key.sheet ≡ o →
-        if_there o (λ s. if_there (get s.cells key.place) (λ cell. if_there (place_goes (way_in s) key.place) (λ q. cell_part (at (way_in s) key.place q) cell))) ≡ Some tree → IsOfSheet key tree
+        if_there o (λ s. if_there (get s.cells key.place) (λ cell. if_there (place_goes (route_in s) key.place) (λ q. cell_part (at (route_in s) key.place q) cell))) ≡ Some tree → IsOfSheet key tree
     of_sheet_at key tree None none h = absurd (cc)
-    of_sheet_at key tree (Some s) there h = record { sheet = s; found = there; it = tree_there (way_in s) s.cells key.place tree (get s.cells key.place) (place_goes (way_in s) key.place) refl refl h }
+    of_sheet_at key tree (Some s) there h = record { sheet = s; found = there; it = tree_there (route_in s) s.cells key.place tree (get s.cells key.place) (place_goes (route_in s) key.place) refl refl h }
 
     kept_tree : (key : SheetPlace) (tree : Node) → get kept.formulas key ≡ Some tree → IsOfSheet key tree
     kept_tree key tree h = of_sheet_at key tree (sheet_of book key.sheet) refl
-        (sym (formulas_at (book_way a e id book) book (distinct_ids_from_well_formed book rules) key.sheet key.place) ∙ h)
+        (sym (formulas_at (book_route a e id book) book (distinct_ids_from_well_formed book rules) key.sheet key.place) ∙ h)
 
     of_cell : (key : SheetPlace) (tree : Node) → get kept.formulas key ≡ Some tree → IsOfCell book key tree
     of_cell key tree h =
         let of = kept_tree key tree h in
         record { of = of.sheet; cell = of.it.cell; found = of.found; stands = of.it.stands; is_it = of.it.is_it }
 
-    later_found : (n : ℕ) (s : Sheet) → sheet_of book n ≡ Some s → sheet_of later n ≡ Some (sheet_followed (way_in s) s)
+    later_found : (n : ℕ) (s : Sheet) → sheet_of book n ≡ Some s → sheet_of later n ≡ Some (sheet_followed (route_in s) s)
     later_found n s h = followed_found (name_of (sheet_of book id)) n book.worksheets s h
 
     tree_goes : (key : SheetPlace) (tree : Node) → IsOfSheet key tree → IsSought (goes_on a e id) later key
     unfolding goes_on place_goes
     tree_goes key tree of = record {
-      sheet = sheet_followed (way_in of.sheet) of.sheet;
+      sheet = sheet_followed (route_in of.sheet) of.sheet;
       there = later_found key.sheet of.sheet of.found;
-      formula = formula_there (way_in of.sheet) of.sheet.cells key.place tree (way_is a l e valid id (name_of (sheet_of book id)) of.sheet) of.it;
+      formula = formula_there (route_in of.sheet) of.sheet.cells key.place tree (way_is a l e valid id (name_of (sheet_of book id)) of.sheet) of.it;
     }
 
     -- each kept formula stands in the later workbook
@@ -269,7 +269,7 @@ module _ (a : Along) (l : IsAxis a) (e : EditKind) (valid : IsValid a.last e) (i
             let own = (lost_entry position_cmp position_total exact_positions (place_image a (image_at a.last e)) s.cells p cell is).0 in
             shallow_entry p (Some cell) (sym (ap (entry_fits_at p) own) ∙ fit p)
 
-        cell_shallow : (p : Position) (o : Option Sheet) → sheet_of book id ≡ o → IsTrue (is_shallow_entry (get (edited_kept (book_way a e id book) o).cells p))
+        cell_shallow : (p : Position) (o : Option Sheet) → sheet_of book id ≡ o → IsTrue (is_shallow_entry (get (edited_kept (book_route a e id book) o).cells p))
         cell_shallow p None none = ap is_shallow_entry (get-empty position_cmp p)
         cell_shallow p (Some s) there = entry_shallow s (sheet_fits id s there) p _ refl
 
@@ -278,10 +278,10 @@ module _ (a : Along) (l : IsAxis a) (e : EditKind) (valid : IsValid a.last e) (i
         tree_shallow key (Some tree) is = shallow_where_fits key.place (Formula tree) (cell_tree_fits book rules key tree (of_cell key tree is))
 
         rule_shallow : (index : ℕ) (o : Option Sheet) → sheet_of book id ≡ o →
-            IfSome (get (edited_kept (book_way a e id book) o).formattings index) (λ formatting. IsTrue (is_shallow_rule formatting))
+            IfSome (get (edited_kept (book_route a e id book) o).formattings index) (λ formatting. IsTrue (is_shallow_rule formatting))
         rule_shallow index None none = subst (λ o. IfSome o (λ formatting. IsTrue (is_shallow_rule formatting))) (sym (get-empty nat_cmp index)) tt
         rule_shallow index (Some s) there =
-            kept_known (λ formatting. IsTrue (is_shallow_rule formatting)) (way_in s) s.formattings (passing_rules is_shallow_rule s.formattings (all_shallow s.formattings (sheet_rules_stand book rules id s there))) index
+            kept_known (λ formatting. IsTrue (is_shallow_rule formatting)) (route_in s) s.formattings (passing_rules is_shallow_rule s.formattings (all_shallow s.formattings (sheet_rules_stand book rules id s there))) index
 
     module _ (sheet : Sheet) (found : sheet_of book id ≡ Some sheet) where
       -- what is kept of a workbook stands on lost lines
@@ -290,9 +290,9 @@ module _ (a : Along) (l : IsAxis a) (e : EditKind) (valid : IsValid a.last e) (i
       kept_on_lost =
           let to : Position → Option Position = place_image a (image_at a.last e) in
           let inside : StandsInside sheet = sheet_inside id sheet found in
-          λ i. ((ap (λ o. all_keys (is_lost_place a e) (edited_kept (book_way a e id book) o).cells) found ∙ lost_keys position_cmp position_total exact_positions to sheet.cells is_place inside.cells) i
-          && (ap (λ o. all_keys (is_lost_place a e) (edited_kept (book_way a e id book) o).links) found ∙ lost_keys position_cmp position_total exact_positions to sheet.links is_place inside.links) i)
-          && ((ap (λ o. all_keys (is_lost_line a e) (edited_kept (book_way a e id book) o).lines) found
+          λ i. ((ap (λ o. all_keys (is_lost_place a e) (edited_kept (book_route a e id book) o).cells) found ∙ lost_keys position_cmp position_total exact_positions to sheet.cells is_place inside.cells) i
+          && (ap (λ o. all_keys (is_lost_place a e) (edited_kept (book_route a e id book) o).links) found ∙ lost_keys position_cmp position_total exact_positions to sheet.links is_place inside.links) i)
+          && ((ap (λ o. all_keys (is_lost_line a e) (edited_kept (book_route a e id book) o).lines) found
           ∙ lost_keys int_cmp int_cmp_total exact_signed (image_at a.last e) (lines_of a sheet) (is_line a.last) (lines_inside a l sheet inside)) i
           && trees_on_places book rules kept.formulas of_cell i)
 
@@ -306,27 +306,27 @@ module _ (a : Along) (l : IsAxis a) (e : EditKind) (valid : IsValid a.last e) (i
 
           arrays : list_all array_lies (entries kept.cells) ≡ true
           arrays =
-              ap (λ o. list_all array_lies (entries (edited_kept (book_way a e id book) o).cells)) found
+              ap (λ o. list_all array_lies (entries (edited_kept (book_route a e id book) o).cells)) found
               ∙ all_entries position_cmp position_total exact_positions array_lies (lost_map (place_image a (image_at a.last e)) sheet.cells)
               (λ p cell there. array_inside sheet keeps.arrays p cell (lost_entry position_cmp position_total exact_positions (place_image a (image_at a.last e)) sheet.cells p cell there).0)
 
           parts : parts_inside kept.formattings ≡ true
           parts =
-              ap (λ o. parts_inside (edited_kept (book_way a e id book) o).formattings) found
-              ∙ kept_pass (way_in sheet) sheet.formattings has_parts (have_parts sheet.formattings (sheet_rules_stand book rules id sheet found))
+              ap (λ o. parts_inside (edited_kept (book_route a e id book) o).formattings) found
+              ∙ kept_pass (route_in sheet) sheet.formattings has_parts (have_parts sheet.formattings (sheet_rules_stand book rules id sheet found))
 
           merges : merges_inside kept.merges ≡ true
-          merges = ap (λ o. merges_inside (edited_kept (book_way a e id book) o).merges) found ∙ part_inside (way_in sheet) sheet.merges (sheet_merges_inside sheet keeps.merges)
+          merges = ap (λ o. merges_inside (edited_kept (book_route a e id book) o).merges) found ∙ part_inside (route_in sheet) sheet.merges (sheet_merges_inside sheet keeps.merges)
 
       -- each kept conditional rule stands in the later workbook
       kept_rules_stand : formattings_stand kept.formattings (sheet_of later id) ≡ true
       unfolding formattings_stand
       kept_rules_stand =
-          let w : Way = way_in sheet in
+          let w : RouteModel = route_in sheet in
           let stand = sheet_rules_stand book rules id sheet found in
           ap (formattings_stand kept.formattings) (later_found id sheet found)
-          ∙ ap (λ o. are_there (edited_kept (book_way a e id book) o).formattings (length (sheet_followed w sheet).formattings)
-          && each_stands (edited_kept (book_way a e id book) o).formattings) found
+          ∙ ap (λ o. are_there (edited_kept (book_route a e id book) o).formattings (length (sheet_followed w sheet).formattings)
+          && each_stands (edited_kept (book_route a e id book) o).formattings) found
           ∙ (λ i. kept_there w sheet.formattings (length (sheet_followed w sheet).formattings) (sym (length-map sheet.formattings (formatting_carried w))) i
           && kept_pass w sheet.formattings rule_changes.may_stand stand i)
 
@@ -345,6 +345,6 @@ module _ (a : Along) (l : IsAxis a) (e : EditKind) (valid : IsValid a.last e) (i
           let inside : is_there_inside a (opposite_of e) (sheet_of later id) ≡ true =
           ap (is_there_inside a (opposite_of e)) (later_found id sheet found) ∙ back_inside (name_of (sheet_of book id)) sheet it e refl in
           let fit : cells_fit kept.cells ≡ true =
-          ap (λ o. cells_fit (edited_kept (book_way a e id book) o).cells) found ∙ kept_fit sheet (sheet_fits id sheet found) in
+          ap (λ o. cells_fit (edited_kept (book_route a e id book) o).cells) found ∙ kept_fit sheet (sheet_fits id sheet found) in
           let goes : goes_back a id e kept later ≡ true = λ i. valid i && inside i && (kept_on_lost i && kept_lie_inside i) && (fit i && kept_formulas_stand i && kept_rules_stand i) in
           ap (λ b. if b then Ok (book_back a e id kept later) else Err (DiffRefused 0 at)) goes ∙ ap Ok (book_regained a l e valid id book (distinct_ids_from_well_formed book rules))

@@ -12,7 +12,7 @@ use Rattle.base_maps.specs.laws.Inverses.{own_inverse}
 use Rattle.line_edits.specs.Moves.{is_brought}
 use Rattle.line_map.specs.Attributes.{line_brought, line_goes_along, heirs, lines_carried}
 use Rattle.line_map.specs.laws.HeirLaws.{both_of, get-brought}
-use Rattle.line_routes.specs.Way.{Way, IsWay}
+use Rattle.line_routes.specs.RouteModel.{RouteModel, IsRoute}
 use Rattle.sheet_lines.specs.Entries.{line_after}
 
 module _ {X : Type 0} where
@@ -22,7 +22,7 @@ module _ {X : Type 0} where
   brought_or_moved false h v none = refl
 
   -- what a line has afterwards
-  pub get-lines_carried : (w : Way) → IsWay w → (b : Along) (same : X → X → Bool) (m : FinMap int_cmp X) (n : ℤ) →
+  pub get-lines_carried : (w : RouteModel) → IsRoute w → (b : Along) (same : X → X → Bool) (m : FinMap int_cmp X) (n : ℤ) →
       get (lines_carried b same w m) n ≡ line_after b same w m n
   get-lines_carried w is b same m n = elim (line_goes_along b w) as (λ along.
       let moved : FinMap int_cmp X = moved_map (λ n. if along then w.moves.to n else Some n) (λ n. if along then w.moves.from n else Some n) m in

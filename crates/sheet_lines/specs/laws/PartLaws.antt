@@ -17,7 +17,7 @@ use Rattle.line_edits.specs.Moves.{place_image}
 use Rattle.line_map.specs.Attributes.{lines_carried, lines_restored}
 use Rattle.line_map.specs.Maps.{lost_along, places_carried}
 use Rattle.line_routes.specs.Merges.{merge_carried, merges_carried, merges_part}
-use Rattle.line_routes.specs.Way.{Way, IsWay, back, place_goes, is_along}
+use Rattle.line_routes.specs.RouteModel.{RouteModel, IsRoute, back, place_goes, is_along}
 use Rattle.line_map.specs.laws.AttributeLaws.{lines_restore}
 use Rattle.line_map.specs.laws.HeirLaws.{both_of}
 use Rattle.line_map.specs.laws.MapLaws.{brings_nothing, entries_return, lost_given, place_keys}
@@ -28,7 +28,7 @@ use Rattle.line_map.specs.laws.RuleLaws.{rules_regained}
 use Rattle.sheet_lines.specs.Part.{merges_back, formattings_back}
 
 -- what was lost of the edited sheet alone is what each sheet lost itself
-pub lost_laid : {X : Type 0} (w : Way) (given m : FinMap position_cmp X) → (w.is_edited ≡ true → given ≡ lost_map (place_image w.along w.moves.to) m) →
+pub lost_laid : {X : Type 0} (w : RouteModel) (given m : FinMap position_cmp X) → (w.is_edited ≡ true → given ≡ lost_map (place_image w.along w.moves.to) m) →
     lost_along w.is_edited given ≡ lost_map (place_goes w) m
 unfolding place_goes
 lost_laid w given m lost = lost_given position_cmp place_keys (place_image w.along w.moves.to) w.is_edited given m lost
@@ -40,7 +40,7 @@ columns_alone a l h = by_axis l.one_of
     by_axis (inl is) = let no : false ≡ true = sym (ap (λ b. b.of false true) is) ∙ h in absurd (cc)
     by_axis (inr is) = ap (λ b. b.of true false) is
 
-module _ (w : Way) (is : IsWay w) where
+module _ (w : RouteModel) (is : IsRoute w) where
   -- links, of which nothing but the lost ones is kept
   pub links_regained : (links given : FinMap position_cmp Link) → (w.is_edited ≡ true → given ≡ lost_map (place_image w.along w.moves.to) links) →
       overlaid (lost_along w.is_edited given) (moved_map (place_goes (back w)) (place_goes w) (places_carried (λ _ link. link) w links)) ≡ links
@@ -60,12 +60,12 @@ module _ (w : Way) (is : IsWay w) where
   )
 
 -- on another sheet than the edited one merges stay
-apart : (w : Way) → w.is_edited ≡ false → (merges : List MergedCell) → merges_carried (back w) (merges_carried w merges) ≡ merges
+apart : (w : RouteModel) → w.is_edited ≡ false → (merges : List MergedCell) → merges_carried (back w) (merges_carried w merges) ≡ merges
 unfolding merges_carried
 apart w h merges = ap (λ b. if b then filter_map (merge_carried (back w)) (if b then filter_map (merge_carried w) merges else merges) else
     (if b then filter_map (merge_carried w) merges else merges)) h
 
-pub merges_regained : (w : Way) → IsWay w → (merges : List MergedCell) (kept : Option (List MergedCell)) → (w.is_edited ≡ true → kept ≡ merges_part w merges) →
+pub merges_regained : (w : RouteModel) → IsRoute w → (merges : List MergedCell) (kept : Option (List MergedCell)) → (w.is_edited ≡ true → kept ≡ merges_part w merges) →
     merges_back w kept (merges_carried w merges) ≡ merges
 merges_regained w is merges kept lost = at_sheet w.is_edited refl
   where
@@ -79,11 +79,11 @@ merges_regained w is merges kept lost = at_sheet w.is_edited refl
     at_sheet false h = apart w h merges
 
 -- on another sheet than the edited one conditional rules stay
-rules_apart : (w : Way) → w.is_edited ≡ false → (rules : List ConditionalFormatting) → rules_carried w rules ≡ rules
+rules_apart : (w : RouteModel) → w.is_edited ≡ false → (rules : List ConditionalFormatting) → rules_carried w rules ≡ rules
 rules_apart w h [] = refl
 rules_apart w h (rule ∷ rules) = λ i. formatting_elsewhere w h rule i ∷ rules_apart w h rules i
 
-pub formattings_regained : (w : Way) → IsWay w → (rules : List ConditionalFormatting) (kept : FinMap nat_cmp ConditionalFormatting) →
+pub formattings_regained : (w : RouteModel) → IsRoute w → (rules : List ConditionalFormatting) (kept : FinMap nat_cmp ConditionalFormatting) →
     (w.is_edited ≡ true → kept ≡ rules_kept w rules) → formattings_back w kept (rules_carried w rules) ≡ rules
 formattings_regained w is rules kept same = at_sheet w.is_edited refl
   where

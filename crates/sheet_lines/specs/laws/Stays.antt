@@ -38,11 +38,11 @@ use Rattle.line_map.specs.Contents.{cell_carried, cell_part, cell_restored}
 use Rattle.line_map.specs.Maps.{lost_along, places_carried, places_parts, places_restored}
 use Rattle.line_routes.specs.Merges.{merges_carried, merges_part, MergesLie}
 use Rattle.line_routes.specs.Trees.{following, tree_carried, tree_part}
-use Rattle.line_routes.specs.Way.{Way, IsWay, at, back, place_goes}
+use Rattle.line_routes.specs.RouteModel.{RouteModel, IsRoute, at, back, place_goes}
 use Rattle.line_map.specs.laws.ContentLaws.{cell_stays}
 use Rattle.line_routes.specs.laws.MergeLaws.{merges_part_fits, merges_stay}
 use Rattle.line_routes.specs.laws.TreeLaws.{tree_restores}
-use Rattle.line_routes.specs.laws.WayLaws.{at_is_way, back_is_way, goes_inverse}
+use Rattle.line_routes.specs.laws.RouteLaws.{at_is_route, back_is_route, goes_inverse}
 use Rattle.line_map.specs.Canonical.{KeptLie}
 use Rattle.line_map.specs.Rules.{rules_restored, RulesLie}
 use Rattle.line_map.specs.laws.RuleLaws.{kept_numbers, restored_lie, rules_stay}
@@ -50,7 +50,7 @@ use Rattle.sheet_lines.specs.declared.kept.KeptLines.{KeptLines}
 use Rattle.sheet_lines.specs.Back.{AreCanonicalFormulas, sheet_back, sheets_back, LieInside, ArePlacedLines}
 use Rattle.sheet_lines.specs.Part.{merges_back, formattings_back}
 use Rattle.sheet_lines.specs.Workbooks.{IsSoundSheet, LinesFit}
-use Rattle.sheet_lines.specs.Followed.{edited_way, way_of, way_on, sheet_followed, sheets_followed}
+use Rattle.sheet_lines.specs.Followed.{edited_route, route_of, route_on, sheet_followed, sheets_followed}
 use Rattle.sheet_lines.specs.Kept.{lines_of, kept_of}
 use Rattle.sheet_lines.specs.Sheets.{IsPlacedCell, IsPlacedSheet}
 
@@ -58,13 +58,13 @@ use Rattle.sheet_lines.specs.Sheets.{IsPlacedCell, IsPlacedSheet}
 
 -- a fact of cells at their places that following keeps, and putting trees back that have a fact of their own
 pub record Stays (P : Position → Cell → Type 0) (Q : Position → Node → Type 0) : Type 0 where
-  pub carried : (w : Way) → IsWay w → (p q : Position) (x : Cell) → P p x → P q (cell_carried (at w p q) x)
+  pub carried : (w : RouteModel) → IsRoute w → (p q : Position) (x : Cell) → P p x → P q (cell_carried (at w p q) x)
   pub restored : (p q : Position) (x : Cell) (k : Node) → P q x → Q p k → P p (cell_restored x k)
 
 abbrev pub HasCanonicalNumbers : Node → Type 0
 HasCanonicalNumbers tree = IsTrue (has_canonical_numbers tree)
 
-numbers_carried : (w : Way) (tree : Node) → HasCanonicalNumbers tree → HasCanonicalNumbers (tree_carried w tree)
+numbers_carried : (w : RouteModel) (tree : Node) → HasCanonicalNumbers tree → HasCanonicalNumbers (tree_carried w tree)
 unfolding tree_carried
 numbers_carried w tree numbers = subst IsTrue (sym (numbers-moved Canonical w.to (following w) tree)) numbers
 
@@ -83,14 +83,14 @@ placed_tree p k (Some tree) h = h
 -- formulas may stand at their places
 pub places_stay : Stays IsPlacedCell (λ place tree. is_placed place tree ≡ true)
 places_stay = record {
-  carried = λ w is p q x h. cell_stays (at w p q) (at_is_way w is p q) x h;
+  carried = λ w is p q x h. cell_stays (at w p q) (at_is_route w is p q) x h;
   restored = λ p q x k h placed. subst (λ o. IfSome o (λ tree. is_placed p tree ≡ true)) (sym (tree_of-with_tree x.content k))
       (placed_tree p k (tree_of x.content) placed);
 }
 
 -- ---- sheets
 
-module _ (w : Way) (is : IsWay w) where
+module _ (w : RouteModel) (is : IsRoute w) where
   module _ (P : Position → Cell → Type 0) (Q : Position → Node → Type 0) (stays : Stays P Q) (cells : FinMap position_cmp Cell) (all : Each P cells) where
     -- a fact of cells holds of those that follow
     pub followed_are : Each P (places_carried cell_carried w cells)
@@ -100,7 +100,7 @@ module _ (w : Way) (is : IsWay w) where
         (λ p q x there held. stays.carried w is p q x (each_found position_cmp P cells all p x held))
 
     settled_are : (p q : Position) (x : Cell) → P q x → (o : Option Node) → IfSome o (Q p) → P p (settled (cell_carried (back (at w p q))) cell_restored o x)
-    settled_are p q x h None part = stays.carried (back w) (back_is_way w is) q p x h
+    settled_are p q x h None part = stays.carried (back w) (back_is_route w is) q p x h
     settled_are p q x h (Some k) part = stays.restored p q x k h part
 
     -- and of those that are taken back, with cells and trees of which it holds
@@ -115,7 +115,7 @@ module _ (w : Way) (is : IsWay w) where
         each_overlaid position_cmp position_total exact_positions P (lost_along w.is_edited lost) restored
         (elim w.is_edited as (λ t. Each P (lost_along t lost)) [ true ↦ laid | false ↦ no_entry position_cmp P ]) all_restored
 
-  part_at : (v : Way) (o : Option Node) → IfSome o HasCanonicalNumbers → IfSome (if_there o (tree_part v)) HasCanonicalNumbers
+  part_at : (v : RouteModel) (o : Option Node) → IfSome o HasCanonicalNumbers → IfSome (if_there o (tree_part v)) HasCanonicalNumbers
   part_at v None h = tt
   part_at v (Some tree) h = holds_of HasCanonicalNumbers (tree_part v tree) (λ part g. subst HasCanonicalNumbers (sym (tree_restores v tree part g)) h)
 
@@ -140,23 +140,23 @@ lost_lines_lie a l sheet h i to = keys_lost int_cmp int_cmp_total exact_signed (
     by_axis (inr is) = subst (λ b. LinesLie b (lines_of b sheet)) (sym is) i
 
 -- on the edited sheet what goes nowhere is what has no image
-pub lost_places : {X : Type 0} (w : Way) → w.is_edited ≡ true → (m : FinMap position_cmp X) →
+pub lost_places : {X : Type 0} (w : RouteModel) → w.is_edited ≡ true → (m : FinMap position_cmp X) →
     lost_map (place_goes w) m ≡ lost_map (place_image w.along w.moves.to) m
 unfolding place_goes
 lost_places w e m = ap (λ b. lost_map (λ p. if b then place_image w.along w.moves.to p else Some p) m) e
 
 -- merges that are taken back lie inside
-merges_return : (w : Way) → IsWay w → (kept : Option (List MergedCell)) (merges : List MergedCell) → IfSome kept MergesLie → MergesLie merges →
+merges_return : (w : RouteModel) → IsRoute w → (kept : Option (List MergedCell)) (merges : List MergedCell) → IfSome kept MergesLie → MergesLie merges →
     MergesLie (merges_back w kept merges)
 merges_return w is kept merges h lie = elim w.is_edited as (λ b. MergesLie
     (settled (merges_carried (back w)) (λ _ list. list) (if b then kept else None) merges)) [ true ↦ at_kept kept h | false ↦ at_kept None tt ]
   where
     at_kept : (o : Option (List MergedCell)) → IfSome o MergesLie → MergesLie (settled (merges_carried (back w)) (λ _ list. list) o merges)
-    at_kept None i = merges_stay (back w) (back_is_way w is) merges lie
+    at_kept None i = merges_stay (back w) (back_is_route w is) merges lie
     at_kept (Some list) i = i
 
 -- conditional rules that are taken back stand inside
-formattings_return : (w : Way) → IsWay w → (kept : FinMap nat_cmp ConditionalFormatting) (rules : List ConditionalFormatting) → KeptLie kept → RulesLie rules →
+formattings_return : (w : RouteModel) → IsRoute w → (kept : FinMap nat_cmp ConditionalFormatting) (rules : List ConditionalFormatting) → KeptLie kept → RulesLie rules →
     RulesLie (formattings_back w kept rules)
 formattings_return w is kept rules h lie = elim w.is_edited as (λ b. RulesLie (if b then rules_restored w kept rules else rules))
     [ true ↦ restored_lie w is kept h rules lie | false ↦ lie ]
@@ -168,44 +168,44 @@ pub all_mapped : (P : Sheet → Type 0) (f : Sheet → Sheet) → ((sheet : Shee
 all_mapped P f step [] all = tt
 all_mapped P f step (sheet ∷ sheets) all = (step sheet all.0, all_mapped P f step sheets all.1)
 
-pub edit_is_way : (a : Along) → IsAxis a → (e : EditKind) → IsValid a.last e → (id : ℕ) (edited : List ℕ) → IsWay (edited_way a (edit_moves a.last e) id edited)
-edit_is_way a l e valid id edited = record { axis = l; one_to_one = edit_one_to_one a.last e valid }
+pub edit_is_route : (a : Along) → IsAxis a → (e : EditKind) → IsValid a.last e → (id : ℕ) (edited : List ℕ) → IsRoute (edited_route a (edit_moves a.last e) id edited)
+edit_is_route a l e valid id edited = record { axis = l; one_to_one = edit_one_to_one a.last e valid }
 
 pub way_is : (a : Along) → IsAxis a → (e : EditKind) → IsValid a.last e → (id : ℕ) (edited : List ℕ) (sheet : Sheet) →
-    IsWay (way_of a (edit_moves a.last e) id edited sheet)
+    IsRoute (route_of a (edit_moves a.last e) id edited sheet)
 way_is a l e valid id edited sheet = record { axis = l; one_to_one = edit_one_to_one a.last e valid }
 
 -- along the way of the edited sheet
-module _ (w : Way) (is : IsWay w) where
-  pub is_way_on : (sheet : Sheet) → IsWay (way_on w sheet)
-  is_way_on sheet = record { axis = is.axis; one_to_one = is.one_to_one }
+module _ (w : RouteModel) (is : IsRoute w) where
+  pub is_route_on : (sheet : Sheet) → IsRoute (route_on w sheet)
+  is_route_on sheet = record { axis = is.axis; one_to_one = is.one_to_one }
 
   -- a sheet that follows stays placed
-  pub sheet_placed : (sheet : Sheet) → IsPlacedSheet sheet → IsPlacedSheet (sheet_followed (way_on w sheet) sheet)
-  sheet_placed sheet h = let v : Way = way_on w sheet in record {
+  pub sheet_placed : (sheet : Sheet) → IsPlacedSheet sheet → IsPlacedSheet (sheet_followed (route_on w sheet) sheet)
+  sheet_placed sheet h = let v : RouteModel = route_on w sheet in record {
     cells = each_found position_cmp IsPlacedCell (places_carried cell_carried v sheet.cells)
-        (followed_are v (is_way_on sheet) IsPlacedCell (λ place tree. is_placed place tree ≡ true) places_stay sheet.cells
+        (followed_are v (is_route_on sheet) IsPlacedCell (λ place tree. is_placed place tree ≡ true) places_stay sheet.cells
         (each_from position_cmp IsPlacedCell sheet.cells h.cells));
-    merges = merges_stay v (is_way_on sheet) sheet.merges h.merges;
-    formattings = rules_stay v (is_way_on sheet) sheet.formattings h.formattings;
+    merges = merges_stay v (is_route_on sheet) sheet.merges h.merges;
+    formattings = rules_stay v (is_route_on sheet) sheet.formattings h.formattings;
   }
 
   pub followed_placed : (sheets : List Sheet) → AllByRecursion IsPlacedSheet sheets → AllByRecursion IsPlacedSheet (sheets_followed w sheets)
-  followed_placed = all_mapped IsPlacedSheet (λ sheet. sheet_followed (way_on w sheet) sheet) sheet_placed
+  followed_placed = all_mapped IsPlacedSheet (λ sheet. sheet_followed (route_on w sheet) sheet) sheet_placed
 
   -- what is kept of a sound sheet can be laid over the workbook
-  pub sheet_kept_fits : (sheet : Sheet) → IsSoundSheet sheet → LinesFit w (kept_of (way_on w sheet) sheet)
+  pub sheet_kept_fits : (sheet : Sheet) → IsSoundSheet sheet → LinesFit w (kept_of (route_on w sheet) sheet)
   sheet_kept_fits sheet it = record {
     numbers = record {
       cells = each_lost position_cmp position_total exact_positions (λ _. IsCanonicalCell) (place_image w.along w.moves.to) sheet.cells it.numbers;
       formulas = no_entry sheet_place_cmp (λ _. HasCanonicalNumbers);
-      formattings = kept_numbers (way_on w sheet) sheet.formattings it.rules;
+      formattings = kept_numbers (route_on w sheet) sheet.formattings it.rules;
     };
     inside = record {
       cells = keys_lost position_cmp position_total exact_positions IsPlace (place_image w.along w.moves.to) sheet.cells it.cells;
       links = keys_lost position_cmp position_total exact_positions IsPlace (place_image w.along w.moves.to) sheet.links it.links;
       lines = lost_lines_lie w.along is.axis sheet it.rows it.columns w.moves.to;
-      merges = holds_of MergesLie (merges_part (way_on w sheet) sheet.merges) (merges_part_fits (way_on w sheet) (is_way_on sheet) sheet.merges it.placed.merges);
+      merges = holds_of MergesLie (merges_part (route_on w sheet) sheet.merges) (merges_part_fits (route_on w sheet) (is_route_on sheet) sheet.merges it.placed.merges);
     };
   }
 
@@ -220,13 +220,13 @@ module _ (w : Way) (is : IsWay w) where
   -- sheets that are taken back stay placed, with cells, trees and conditional rules that may stand where they stood
   pub back_placed : (kept : KeptLines) → LieInside w.along kept → ArePlacedLines kept → (sheets : List Sheet) → AllByRecursion IsPlacedSheet sheets →
       AllByRecursion IsPlacedSheet (sheets_back w kept sheets)
-  back_placed kept inside lines = all_mapped IsPlacedSheet (λ sheet. sheet_back (way_on w sheet) kept sheet)
-      (λ sheet h. let v : Way = way_on w sheet in record {
+  back_placed kept inside lines = all_mapped IsPlacedSheet (λ sheet. sheet_back (route_on w sheet) kept sheet)
+      (λ sheet h. let v : RouteModel = route_on w sheet in record {
         cells = each_found position_cmp IsPlacedCell (sheet_back v kept sheet).cells
-            (back_are v (is_way_on sheet) IsPlacedCell (λ place tree. is_placed place tree ≡ true) places_stay sheet.cells
+            (back_are v (is_route_on sheet) IsPlacedCell (λ place tree. is_placed place tree ≡ true) places_stay sheet.cells
             (each_from position_cmp IsPlacedCell sheet.cells h.cells)
             kept.cells (λ place. get kept.formulas (place_on sheet.id place)) (each_from position_cmp IsPlacedCell kept.cells lines.cells)
             (λ p. holds_of (λ tree. is_placed p tree ≡ true) (get kept.formulas (place_on sheet.id p)) (λ tree. lines.formulas (place_on sheet.id p) tree)));
-        merges = merges_return v (is_way_on sheet) kept.merges sheet.merges inside.merges h.merges;
-        formattings = formattings_return v (is_way_on sheet) kept.formattings sheet.formattings lines.formattings h.formattings;
+        merges = merges_return v (is_route_on sheet) kept.merges sheet.merges inside.merges h.merges;
+        formattings = formattings_return v (is_route_on sheet) kept.formattings sheet.formattings lines.formattings h.formattings;
       })

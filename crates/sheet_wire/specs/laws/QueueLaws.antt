@@ -5,20 +5,20 @@ use Rattle.base_values.specs.declared.EditError.TheVariants.{ParseDiffs}
 use Rattle.sheet_history.specs.declared.QueueDiffs.{QueueDiffs}
 use Rattle.base_wire.specs.laws.Again.{whole_again}
 use Rattle.base_wire.specs.laws.Refusals.{Refuses, whole_refuses}
-use Rattle.base_wire.specs.laws.Spelled.{IsBytes, whole_spelled}
-use Rattle.sheet_wire.specs.QueueBytes.{spell_queue, FitsQueue, IsNoQueue}
+use Rattle.base_wire.specs.laws.Encoded.{IsBytes, whole_encoded}
+use Rattle.sheet_wire.specs.QueueBytes.{encode_queue, FitsQueue, IsNoQueue}
 use Rattle.sheet_wire.specs.laws.Reading.{queue_of}
 use Rattle.sheet_wire.specs.laws.QueueFormats.{queue_format}
 
--- a queue that bytes can carry is read again from its spelling
-pub queue_again : (queue : List QueueDiffs) → FitsQueue queue → queue_of (spell_queue queue) ≡ Ok queue
-unfolding spell_queue queue_of
+-- a queue that bytes can carry is read again from its encoding
+pub queue_again : (queue : List QueueDiffs) → FitsQueue queue → queue_of (encode_queue queue) ≡ Ok queue
+unfolding encode_queue queue_of
 queue_again queue fits = whole_again queue_format.again queue fits
 
--- what is read of bytes is a queue that fits, and they are its spelling
-pub queue_spelled : (bytes : List ℕ) (queue : List QueueDiffs) → IsBytes bytes → queue_of bytes ≡ Ok queue → (bytes ≡ spell_queue queue) × FitsQueue queue
-unfolding spell_queue queue_of
-queue_spelled bytes queue small e = whole_spelled queue_format.spelled bytes queue small e
+-- what is read of bytes is a queue that fits, and they are its encoding
+pub queue_encoded : (bytes : List ℕ) (queue : List QueueDiffs) → IsBytes bytes → queue_of bytes ≡ Ok queue → (bytes ≡ encode_queue queue) × FitsQueue queue
+unfolding encode_queue queue_of
+queue_encoded bytes queue small e = whole_encoded queue_format.encoded bytes queue small e
 
 queue_refuses : (bytes : List ℕ) → Refuses (queue_of bytes)
 unfolding queue_of

@@ -331,6 +331,6 @@ entry_at = map_at entry_made (code_at direction_code directions ⊗ list_of_diff
 
 -- ---- queues
 
--- the queue that all of the bytes spell
+-- the queue that all of the bytes encode
 unfoldable pub queue_of : List ℕ → Result (List QueueDiffs) EditError
 queue_of = whole (after magic (list_at entry_at))

@@ -10,7 +10,7 @@ ghost use Rattle.name_lists.specs.Listed.{listed_names};
 ghost use Rattle.edit_plans.specs.Edits.Edit.{ChangeNames};
 ghost use Rattle.open_book.specs.Machine.{edit_of};
 ghost use Rattle.user_model.specs.Reading.{formula_typed};
-ghost use Rattle.open_book.specs.Stands.{OnStates, Steps, Turns};
+ghost use Rattle.open_book.specs.Stands.{OnStates, Steps, MovesOrNoMemory};
 ghost use Rattle.user_model.specs.Typing.{name_tested, name_typed, update_typed};
 ghost use Rattle.open_book.specs.Values.{IsMade};
 
@@ -113,7 +113,7 @@ impl<R: Recalc + Drop> UserModel<R> {
         scope: Option<u32>,
         formula: &str,
     ) -> Result<(), EditError>
-        ensures next { OnStates self.old.document (λ state. Turns result self.new.document (name_typed scope name.now formula.now state)) }
+        ensures next { OnStates self.old.document (λ state. MovesOrNoMemory result self.new.document (name_typed scope name.now formula.now state)) }
         ensures memory { IfErr result (λ error. error ≡ NoMemory → IsOk (name_goes scope name.now self.old.document.book)) }
         ensures output { OnOk result (IsMade R.Fits self.new) }
         ensures err { OnErr result (self.new ≡ self.old) }
@@ -169,7 +169,7 @@ impl<R: Recalc + Drop> UserModel<R> {
         new_scope: Option<u32>,
         new_formula: &str,
     ) -> Result<(), EditError>
-        ensures next { OnStates self.old.document (λ state. Turns result self.new.document (update_typed scope name.now new_scope new_name.now new_formula.now state)) }
+        ensures next { OnStates self.old.document (λ state. MovesOrNoMemory result self.new.document (update_typed scope name.now new_scope new_name.now new_formula.now state)) }
         ensures memory { IfErr result (λ error. error ≡ NoMemory → IsOk (update_goes scope name.now new_scope new_name.now self.old.document.book)) }
         ensures output { OnOk result (IsMade R.Fits self.new) }
         ensures err { OnErr result (self.new ≡ self.old) }

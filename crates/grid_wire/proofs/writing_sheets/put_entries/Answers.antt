@@ -4,7 +4,7 @@ use Rattle.std.specs.FinMap.{FinMap, get}
 use Rattle.std.specs.Ordering.{int_cmp}
 use Rattle.base_values.specs.Places.{IsPlace, IsRow, IsColumn, position_cmp}
 use Rattle.base_values.specs.declared.Position.{Position}
-use Rattle.base_wire.specs.Spelling.{Any}
+use Rattle.base_wire.specs.Encoding.{Any}
 use Rattle.format_rules.specs.declared.ConditionalFormatting.{ConditionalFormatting}
 use Rattle.rule_wire.specs.FormattingBytes.{FitsFormattings, AreKnownFormattings}
 use Rattle.sheet_grid.specs.declared.Cell.{Cell}

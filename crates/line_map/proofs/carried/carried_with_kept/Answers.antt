@@ -6,7 +6,7 @@ use Rattle.base_maps.specs.laws.Loops.{made_on, made_all}
 use Rattle.base_maps.specs.laws.Listed.{listed_held, listed_on, listed_all}
 use Rattle.line_map.specs.Keys.{rekeyed}
 use Rattle.line_map.specs.laws.UnderLaws.{rekeyed_made, rekeyed_none}
-use Rattle.line_routes.specs.Way.{way}
+use Rattle.line_routes.specs.RouteModel.{route_model}
 use Rattle.line_map.proofs.carried.carried_with_kept.Goals as goal
 
 pub carried_and_kept-requires-clause-inside : goal.carried_and_kept-requires-clause-inside
@@ -40,7 +40,7 @@ loop-from-preserved g c =
     let inside = c.requires.places _ _ (listed_held keys.total keys.exact c.loop-from.invariant.0 c.next.new.self
     (c.in-Some.from, c.in-Some.item) c.in-Some.is c.next.ensures.steps) in (
       listed_on keys.total keys.exact c.loop-from.invariant.0 (c.in-Some.from, c.in-Some.item) c.in-Some.is c.next.ensures.steps
-          (λ q there. keys.lands (way c.args.route.now) c.is_way.ensures c.in-Some.from.now q inside there)
+          (λ q there. keys.lands (route_model c.args.route.now) c.is_route.ensures c.in-Some.from.now q inside there)
           (c.in_ok-put_last.ensures.items ∙ ap (λ o. c.loop-from.output ++ cons_option o []) c.in_ok-moved.ensures.carried),
       (
         made_on keys.total keys.exact c.loop-from.invariant.1.0 own_inverse (c.in-Some.from, c.in-Some.item) c.in-Some.is c.next.ensures.steps
@@ -54,17 +54,17 @@ loop-from-preserved g c =
 
 pub returns-clause-carried : goal.returns-clause-carried
 returns-clause-carried g c =
-    let w = way c.args.route.now in
+    let w = route_model c.args.route.now in
     let keys = g.met.K.RouteKeys.are_keys in
     c.in_ok-bring.ensures.carried ∙ ap (g.K.RouteKeys.with_brought w c.args.map.now)
     (sym (g.K.MapKey.model_seen c.in_ok-carried.carried) ∙ ap g.K.MapKey.model (c.in_ok-carried.ensures.map
-    ∙ listed_all keys.total keys.exact c.loop-from.invariant.0 (keys.inverse w c.is_way.ensures) c.next.new.self c.in-None.is c.next.ensures.steps))
+    ∙ listed_all keys.total keys.exact c.loop-from.invariant.0 (keys.inverse w c.is_route.ensures) c.next.new.self c.in-None.is c.next.ensures.steps))
 
 pub returns-clause-lost : goal.returns-clause-lost
 returns-clause-lost g c =
     let keys = g.met.K.RouteKeys.are_keys in
     made_all keys.total keys.exact c.loop-from.invariant.1.0 own_inverse c.next.new.self c.in-None.is c.next.ensures.steps
-    ∙ lost_gathered g.K.MapKey.order keys.total keys.exact (g.K.RouteKeys.goes (way c.args.route.now)) (g.K.MapKey.seen c.args.map.now)
+    ∙ lost_gathered g.K.MapKey.order keys.total keys.exact (g.K.RouteKeys.goes (route_model c.args.route.now)) (g.K.MapKey.seen c.args.map.now)
 
 pub returns-clause-parts : goal.returns-clause-parts
 returns-clause-parts g c =

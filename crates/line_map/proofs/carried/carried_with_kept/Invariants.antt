@@ -4,12 +4,12 @@ use Rattle.base_maps.specs.Carried.{if_lost, if_there}
 use Rattle.base_maps.specs.laws.Listed.{Listed}
 use Rattle.base_maps.specs.laws.Loops.{Made}
 use Rattle.line_map.specs.Keys.{rekeyed}
-use Rattle.line_routes.specs.Way.{way}
+use Rattle.line_routes.specs.RouteModel.{route_model}
 use Rattle.line_map.proofs.carried.carried_with_kept.Given as goal
 
 abbrev pub invariant-loop-from : goal.invariant-loop-from
 invariant-loop-from g l =
-    let w = way l.fn.route in
+    let w = route_model l.fn.route in
     let goes = g.K.RouteKeys.goes w in
     Listed g.K.MapKey.fits deref_pair goes (λ p q x. Some (g.F.Follower.carry_of (g.K.RouteKeys.at w p q) x))
     (g.K.MapKey.seen l.fn.map) l.yielded l.from-iterator l.output

@@ -1,13 +1,13 @@
-use Rattle.line_routes.specs.Way.{way}
+use Rattle.line_routes.specs.RouteModel.{route_model}
 use Rattle.line_map.specs.laws.FollowLaws.{formatting_follows, formatting_elsewhere}
 use Rattle.line_map.specs.laws.RuleLaws.{rules_regained}
 use Rattle.line_map.proofs.rule_laws.rules_follow.Goals as goal
 
 pub returns-clause-edited : goal.returns-clause-edited
-returns-clause-edited g c = formatting_follows (way c.args.route.now)
+returns-clause-edited g c = formatting_follows (route_model c.args.route.now)
 
 pub returns-clause-others : goal.returns-clause-others
-returns-clause-others g c = formatting_elsewhere (way c.args.route.now)
+returns-clause-others g c = formatting_elsewhere (route_model c.args.route.now)
 
 pub returns-clause-regained : goal.returns-clause-regained
-returns-clause-regained g c = rules_regained (way c.args.route.now)
+returns-clause-regained g c = rules_regained (route_model c.args.route.now)

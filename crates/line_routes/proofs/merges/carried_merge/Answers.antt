@@ -4,7 +4,7 @@ use Rattle.base_axis.specs.declared.MergedCell.{MergedCell}
 use Rattle.base_axis.specs.Rectangles.{first_line, last_line, across, with_lines}
 use Rattle.base_axis.specs.laws.RectangleLaws.{first_inside, last_inside, lines_in_order}
 use Rattle.base_maps.specs.Carried.{if_there}
-use Rattle.line_routes.specs.Way.{way}
+use Rattle.line_routes.specs.RouteModel.{route_model}
 use Rattle.line_routes.proofs.merges.carried_merge.Goals as goal
 
 pub merged-requires-clause-lines : goal.merged-requires-clause-lines
@@ -25,7 +25,7 @@ merged-requires-clause-lines g c =
 pub returns : goal.returns
 returns g c =
     let a = g.A.Axis.along in
-    let w = way c.args.route.now in
+    let w = route_model c.args.route.now in
     let merge = c.args.merge in
     let put : Option (ℤ × ℤ) → Option MergedCell = λ o. if_there o (λ lines. Some (with_lines a merge lines.0 lines.1)) in
     let is = g.met.A.Axis.lawful in

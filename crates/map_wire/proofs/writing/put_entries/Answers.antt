@@ -1,6 +1,6 @@
 use Rattle.std.proofs.Common.{rules, ◌≡◌, [], ◌∷◌, refl, sym, subst}
 use Rattle.std.specs.List.{AllByRecursion}
-use Rattle.base_wire.specs.Spelling.{spell_both}
+use Rattle.base_wire.specs.Encoding.{encode_both}
 use Rattle.map_wire.specs.laws.MapFits.{Carried}
 use Rattle.map_wire.proofs.Written.{written_on}
 use Rattle.map_wire.proofs.writing.put_entries.Goals as goal
@@ -16,7 +16,7 @@ loop-key-preserved g c =
     let step : c.loop-key.key-iterator ≡ entry ∷ c.next.new.self = search rules in (
       tt,
       tt,
-      written_on (spell_both g.K.Part.spelling g.P.Part.spelling) c.loop-key.out.items c.put_entry.new.out.items _ entry c.next.new.self c.loop-key.key-iterator step c.in_ok-put_entry.ensures.spelled c.loop-key.invariant.2,
+      written_on (encode_both g.K.Part.encoding g.P.Part.encoding) c.loop-key.out.items c.put_entry.new.out.items _ entry c.next.new.self c.loop-key.key-iterator step c.in_ok-put_entry.ensures.encoded c.loop-key.invariant.2,
       λ rest. c.loop-key.invariant.3 (subst (AllByRecursion (Carried g.K.Part.Known g.P.Part.Known g.K.Part.Fits g.P.Part.Fits)) (sym step) (c.in_ok-put_entry.ensures.fits, rest)),
     )
 

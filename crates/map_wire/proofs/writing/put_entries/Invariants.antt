@@ -1,6 +1,6 @@
 use Rattle.std.proofs.Common.{◌≡◌, ◌++◌}
 use Rattle.std.specs.List.{flat_map, AllByRecursion}
-use Rattle.base_wire.specs.Spelling.{spell_both}
+use Rattle.base_wire.specs.Encoding.{encode_both}
 use Rattle.map_wire.specs.laws.MapFits.{Carried}
 use Rattle.map_wire.proofs.writing.put_entries.Given as goal
 
@@ -9,5 +9,5 @@ abbrev pub invariant-loop-key : goal.invariant-loop-key
 invariant-loop-key g l =
     (goal.iterator-loop-key g).can_next l.key-iterator ×
     (goal.iterator-loop-key g).is_finite l.key-iterator ×
-    (l.out.items ++ flat_map (spell_both g.K.Part.spelling g.P.Part.spelling) l.key-iterator ≡ l.initial.out.items ++ flat_map (spell_both g.K.Part.spelling g.P.Part.spelling) l.initial.key-iterator) ×
+    (l.out.items ++ flat_map (encode_both g.K.Part.encoding g.P.Part.encoding) l.key-iterator ≡ l.initial.out.items ++ flat_map (encode_both g.K.Part.encoding g.P.Part.encoding) l.initial.key-iterator) ×
     (AllByRecursion (Carried g.K.Part.Known g.P.Part.Known g.K.Part.Fits g.P.Part.Fits) l.key-iterator → AllByRecursion (Carried g.K.Part.Known g.P.Part.Known g.K.Part.Fits g.P.Part.Fits) l.fn.entries)

@@ -1,6 +1,6 @@
 use Rattle.std.proofs.Common.{subst, sym, ◌∙◌}
 use Rattle.std.proofs.lemmas.Result.{IfOk-weaker}
-use Rattle.line_routes.specs.Way.{IsWay}
+use Rattle.line_routes.specs.RouteModel.{IsRoute}
 use Rattle.sheet_lines.specs.Back.{book_restored}
 use Rattle.sheet_lines.specs.Sheets.{IsPlacedBook}
 use Rattle.sheet_lines.specs.laws.Stays.{back_placed}
@@ -12,5 +12,5 @@ returns-clause-workbook g c = IfOk-weaker c.restored_book.result _ _
 
 pub returns-clause-placed : goal.returns-clause-placed
 returns-clause-placed g c = λ lines. IfOk-weaker c.restored_book.result _ _
-    (λ output is. subst IsPlacedBook (sym is) (back_placed _ (subst IsWay c.book_route-route.ensures c.is_way.ensures) c.args.kept.now c.requires.inside lines
+    (λ output is. subst IsPlacedBook (sym is) (back_placed _ (subst IsRoute c.book_route-route.ensures c.is_route.ensures) c.args.kept.now c.requires.inside lines
     c.args.workbook.now.worksheets c.requires.placed)) (returns-clause-workbook g c)

@@ -1,6 +1,6 @@
 use Rattle.std.proofs.Common.{◌≡◌, ap, subst, sym, ◌∙◌}
 use Rattle.std.proofs.lemmas.Result.{IfOk-weaker}
-use Rattle.line_routes.specs.Way.{IsWay, way}
+use Rattle.line_routes.specs.RouteModel.{IsRoute, route_model}
 use Rattle.sheet_lines.specs.Followed.{book_carried}
 use Rattle.sheet_lines.specs.Kept.{kept_lines, lines_kept}
 use Rattle.sheet_lines.specs.Sheets.{IsPlacedBook}
@@ -13,12 +13,12 @@ returns-clause-workbook g c = IfOk-weaker c.carried_with_lines.result _ _
 
 pub returns-clause-placed : goal.returns-clause-placed
 returns-clause-placed g c = IfOk-weaker c.carried_with_lines.result _ _
-    (λ output is. subst IsPlacedBook (sym is) (followed_placed _ (subst IsWay c.book_route-route.ensures c.is_way.ensures) c.args.workbook.now.worksheets
+    (λ output is. subst IsPlacedBook (sym is) (followed_placed _ (subst IsRoute c.book_route-route.ensures c.is_route.ensures) c.args.workbook.now.worksheets
     c.requires.placed)) (returns-clause-workbook g c)
 
 pub returns-clause-kept : goal.returns-clause-kept
 returns-clause-kept g c =
     let book = c.args.workbook.now in
-    IfOk-weaker c.carried_with_lines.result (λ output. output.1 ≡ lines_kept (way c.book_route-route.result) book)
+    IfOk-weaker c.carried_with_lines.result (λ output. output.1 ≡ lines_kept (route_model c.book_route-route.result) book)
     (λ output. output.1 ≡ kept_lines g.A.Axis.along c.args.edit.now.kind c.args.sheet_id book)
     (λ output is. is ∙ ap (λ w. lines_kept w book) c.book_route-route.ensures) c.carried_with_lines.ensures.kept

@@ -1,10 +1,10 @@
-use Rattle.sheet_wire.specs.TreesBytes.{spell_trees}
+use Rattle.sheet_wire.specs.TreesBytes.{encode_trees}
 use Rattle.sheet_wire.proofs.Joined.{three_joined}
 use Rattle.sheet_wire.proofs.trees.put_trees.Goals as goal
 
-pub returns-clause-spelled : goal.returns-clause-spelled
-unfolding spell_trees
-returns-clause-spelled c = three_joined _ _ _ _ _ _ _ c.in_ok-put.ensures.spelled c.in_ok-put-2.ensures.spelled c.in_ok-put-3.ensures.spelled
+pub returns-clause-encoded : goal.returns-clause-encoded
+unfolding encode_trees
+returns-clause-encoded c = three_joined _ _ _ _ _ _ _ c.in_ok-put.ensures.encoded c.in_ok-put-2.ensures.encoded c.in_ok-put-3.ensures.encoded
 
 pub returns-clause-fits : goal.returns-clause-fits
 returns-clause-fits c = λ known. record {

@@ -1,6 +1,6 @@
 use Rattle.std.proofs.Common.{◌≡◌, map, take}
-use Rattle.line_routes.specs.Way.{way}
+use Rattle.line_routes.specs.RouteModel.{route_model}
 use Rattle.line_map.proofs.list.ItemsFollower.part.Given as goal
 
 abbrev pub invariant-loop-item : goal.invariant-loop-item
-invariant-loop-item g l = l.output ≡ map (g.F.Follower.part_of (way l.route)) (take l.item-index l.self)
+invariant-loop-item g l = l.output ≡ map (g.F.Follower.part_of (route_model l.route)) (take l.item-index l.self)

@@ -1,14 +1,14 @@
 use Rattle.std.proofs.Common.{rules, ◌≡◌, ◌+◌, [], ◌∷◌, ◌++◌, arith, take}
 use Rattle.base_maps.specs.Carried.{settled}
 use Rattle.line_map.specs.Lists.{items_restored}
-use Rattle.line_routes.specs.Way.{back, way}
+use Rattle.line_routes.specs.RouteModel.{back, route_model}
 use Rattle.base_maps.specs.laws.Lists.{zip_more, zip_all}
 use Rattle.line_map.proofs.list.ItemsFollower.restore.Goals as goal
 
 pub loop-i-preserved : goal.loop-i-preserved
 loop-i-preserved g c =
-    let carry = g.F.Follower.carry_of (back (way c.args.route.now)) in
-    let restore = g.F.Follower.restore_of (way c.args.route.now) in
+    let carry = g.F.Follower.carry_of (back (route_model c.args.route.now)) in
+    let restore = g.F.Follower.restore_of (route_model c.args.route.now) in
     let items = c.as_slice-items.result.now in
     let parts = c.as_slice-parts.result.now in
     let i = c.loop-i.i in
@@ -19,8 +19,8 @@ loop-i-preserved g c =
 
 pub returns-clause-value : goal.returns-clause-value
 returns-clause-value g c =
-    let carry = g.F.Follower.carry_of (back (way c.args.route.now)) in
-    let restore = g.F.Follower.restore_of (way c.args.route.now) in
+    let carry = g.F.Follower.carry_of (back (route_model c.args.route.now)) in
+    let restore = g.F.Follower.restore_of (route_model c.args.route.now) in
     let items = c.as_slice-items.result.now in
     let parts = c.as_slice-parts.result.now in
     let all : items_restored carry restore (take c.loop-i.i items) (take c.loop-i.i parts) ≡ items_restored carry restore items parts =

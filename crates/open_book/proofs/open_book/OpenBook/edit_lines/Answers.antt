@@ -40,4 +40,4 @@ returns-clause-sound g c =
     let book = c.args.self.now.workbook in
     let it : ℕ × EditKind = (c.in_ok-id.id, c.in_ok-id.edit.kind) in
     let plan = planned_along _ c.args.axis c.requires.along c.args.kind c.args.sheet book (Ok it) (c.in_ok-id.ensures {u = _}).planned in
-    on_ok_map c.make_lines.result (plan_sound c.args.sheet c.args.axis c.args.kind it book c.requires.rules plan) c.make_lines.ensures.spellable
+    on_ok_map c.make_lines.result (plan_sound c.args.sheet c.args.axis c.args.kind it book c.requires.rules plan) c.make_lines.ensures.encodable

@@ -10,7 +10,7 @@ use Rattle.sheet_history.specs.laws.LineRecords.{along_lawful}
 use Rattle.sheet_history.specs.laws.LineLaws.{kept_shallow}
 use Rattle.sheet_actions.specs.laws.Placed.{placed_from_well_formed}
 use Rattle.open_book.specs.Opened.{document_in}
-use Rattle.open_book.specs.Spellable.{AreSpellable}
+use Rattle.open_book.specs.Encodable.{AreEncodable}
 use Rattle.open_book.proofs.KeptLines.{kept_of_lines}
 use Rattle.open_book.proofs.LinePlans.{sheet_there}
 use Rattle.open_book.proofs.LineSteps.{kept_along, list_is, installed_document}
@@ -50,9 +50,9 @@ returns-clause-document g c =
     subst (Edits c.put_later.result doc (document_in c.put_later.new.self))
     (installed_document _ c.args.axis c.requires.along kind c.args.id doc c.in_ok-later.later c.in_ok-list.list it.workbook record_is) c.put_later.ensures.document
 
-pub returns-clause-spellable : goal.returns-clause-spellable
-returns-clause-spellable g c =
+pub returns-clause-encodable : goal.returns-clause-encodable
+returns-clause-encodable g c =
     let it = c.in_ok-later.ensures {u = _} in
     let record_is =
     list_is _ c.args.axis c.requires.along c.args.edit.now.kind c.args.id c.in_ok-later.kept c.args.self.now.workbook it.kept c.in_ok-list.list (c.in_ok-list.ensures {u = _}).output.done in
-    on_ok c.put_later.result (subst AreSpellable record_is (c.in_ok-list.ensures {u = _}).spellable)
+    on_ok c.put_later.result (subst AreEncodable record_is (c.in_ok-list.ensures {u = _}).encodable)

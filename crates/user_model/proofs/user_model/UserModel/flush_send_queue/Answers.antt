@@ -1,5 +1,5 @@
 use Rattle.std.proofs.Common.{rules, ap, sym, subst, ◌∙◌}
-use Rattle.sheet_wire.specs.QueueBytes.{spell_queue, FitsQueue, IsKnownQueue}
+use Rattle.sheet_wire.specs.QueueBytes.{encode_queue, FitsQueue, IsKnownQueue}
 use Rattle.open_book.specs.Machine.{synced_of}
 use Rattle.open_book.specs.Opened.{document_in}
 use Rattle.open_book.specs.Values.{Session}
@@ -12,7 +12,7 @@ encode_queue-requires g c = record { known = subst IsKnownQueue (sym c.as_slice.
 pub returns-clause-carries : goal.returns-clause-carries
 returns-clause-carries g c = λ state stands.
     flushed_carries c.args.self.now.document state c.in_ok-bytes.bytes.items stands
-    ((c.in_ok-bytes.ensures {u = _}).spelled ∙ ap spell_queue c.as_slice.ensures.items ∙ ap (λ (seen : Session). spell_queue seen.document.queue) c.self.view_is)
+    ((c.in_ok-bytes.ensures {u = _}).encoded ∙ ap encode_queue c.as_slice.ensures.items ∙ ap (λ (seen : Session). encode_queue seen.document.queue) c.self.view_is)
 
 pub returns-clause-fits : goal.returns-clause-fits
 returns-clause-fits g c = λ state stands.

@@ -2,7 +2,7 @@ use Rattle.std.proofs.Common.{subst}
 use Rattle.std.specs.Prelude.{OnOk}
 use Rattle.open_book.specs.Machine.{State, redo_of}
 use Rattle.open_book.specs.Opened.{document_in, session_of}
-use Rattle.open_book.specs.Stands.{StandsFor, Turns}
+use Rattle.open_book.specs.Stands.{StandsFor, MovesOrNoMemory}
 use Rattle.open_book.specs.Values.{Session, Makes, is_none_left}
 use Rattle.open_book.proofs.Moving.{edits_same, reached_on, same_session, redo_turns}
 use Rattle.user_model.proofs.user_model.UserModel.redo.Goals as goal
@@ -12,7 +12,7 @@ redo-requires g c = c.self.invariant
 
 pub returns-clause-next : goal.returns-clause-next
 returns-clause-next g c =
-    subst (λ (seen : Session). (s : State) → StandsFor seen.document s → Turns c.redo.result (document_in c.redo.new.self) (redo_of s)) c.self.view_is
+    subst (λ (seen : Session). (s : State) → StandsFor seen.document s → MovesOrNoMemory c.redo.result (document_in c.redo.new.self) (redo_of s)) c.self.view_is
     (redo_turns (document_in c.self.inside.book) _ c.redo.result c.redo.ensures.document)
 
 pub returns-clause-output : goal.returns-clause-output

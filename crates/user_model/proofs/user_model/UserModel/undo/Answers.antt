@@ -2,7 +2,7 @@ use Rattle.std.proofs.Common.{subst}
 use Rattle.std.specs.Prelude.{OnOk}
 use Rattle.open_book.specs.Machine.{State, undo_of}
 use Rattle.open_book.specs.Opened.{document_in, session_of}
-use Rattle.open_book.specs.Stands.{StandsFor, Turns}
+use Rattle.open_book.specs.Stands.{StandsFor, MovesOrNoMemory}
 use Rattle.open_book.specs.Values.{Session, Makes, is_none_left}
 use Rattle.open_book.proofs.Moving.{edits_same, reached_on, same_session, undo_turns}
 use Rattle.user_model.proofs.user_model.UserModel.undo.Goals as goal
@@ -12,7 +12,7 @@ undo-requires g c = c.self.invariant
 
 pub returns-clause-next : goal.returns-clause-next
 returns-clause-next g c =
-    subst (λ (seen : Session). (s : State) → StandsFor seen.document s → Turns c.undo.result (document_in c.undo.new.self) (undo_of s)) c.self.view_is
+    subst (λ (seen : Session). (s : State) → StandsFor seen.document s → MovesOrNoMemory c.undo.result (document_in c.undo.new.self) (undo_of s)) c.self.view_is
     (undo_turns (document_in c.self.inside.book) _ c.undo.result c.undo.ensures.document)
 
 pub returns-clause-output : goal.returns-clause-output

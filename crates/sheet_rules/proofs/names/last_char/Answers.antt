@@ -3,7 +3,7 @@ use Rattle.std.proofs.lemmas.Iterator.{items_from_drains, YieldsList-from_chars}
 use Rattle.std.proofs.lemmas.List.{map-id}
 use Rattle.std.specs.List.{last_or}
 use Rattle.std.specs.Str.{chars}
-use Rattle.sheet_rules.proofs.names.last_of.Goals as goal
+use Rattle.sheet_rules.proofs.names.last_char.Goals as goal
 
 pub returns : goal.returns
 returns c =

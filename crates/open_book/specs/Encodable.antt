@@ -5,5 +5,5 @@ use Rattle.std.specs.List.{AllByRecursion}
 use Rattle.sheet_history.specs.declared.Diff.{Diff}
 use Rattle.sheet_wire.specs.QueueBytes.{IsKnownDiff}
 
-abbrev pub AreSpellable : List Diff → Type 0
-AreSpellable diffs = AllByRecursion IsKnownDiff diffs
+abbrev pub AreEncodable : List Diff → Type 0
+AreEncodable diffs = AllByRecursion IsKnownDiff diffs

@@ -1,4 +1,4 @@
--- The record of an edit of the list of the sheets, of the defined names, or of the conditional rules of a sheet can be spelled.
+-- The record of an edit of the list of the sheets, of the defined names, or of the conditional rules of a sheet can be encoded.
 use Rattle.std.proofs.Common.{◌≡◌, ℕ, true, false, Bool, cond, length, map, Option, Some, None, Result, Ok, Err, List, [], ◌∷◌, refl, sym, subst}
 use Rattle.std.specs.Prelude.{slice_get, IfSome, IsTrue}
 use Rattle.std.specs.Cmp.{nat_cmp_total}
@@ -67,7 +67,7 @@ use Rattle.rule_edits.specs.laws.EditLaws.{edited_go}
 use Rattle.rule_edits.specs.laws.Lists.{later_stand}
 use Rattle.edit_plans.specs.RuleEdits.{all_diffs, diffs_of, rules_record}
 use Rattle.edit_plans.specs.SheetEdits.{copy_diff, deletion_diff, move_diff, new_diff, one_diff, rename_diff}
-use Rattle.open_book.specs.Spellable.{AreSpellable}
+use Rattle.open_book.specs.Encodable.{AreEncodable}
 use Rattle.open_book.proofs.KeptLines.{own_lines}
 
 -- ---- a deleted sheet
@@ -109,7 +109,7 @@ module _ (index : ℕ) (sheet : Sheet) (w : Book) (rules : IsWellFormed w) (foun
         (sheet_rules_stand w rules sheet.id sheet (found_at index w.worksheets sheet (distinct_ids_from_well_formed w rules) found));
   }
 
-  -- what is kept of it can be spelled
+  -- what is kept of it can be encoded
   deletion_known : IsCanonicalDiff (DeletionDiff index kept) → IsKnownDiff (DeletionDiff index kept)
   deletion_known numbers =
       known_diff (DeletionDiff index kept) numbers shallow
@@ -145,7 +145,7 @@ module _ (sheet : Sheet) (name : List ℕ) (w : Book) (rules : IsWellFormed w) (
   shallow_trees : AreShallowTrees trees
   shallow_trees = record { formulas = shallow_cells; names = shallow_defined; formattings = shallow_rules }
 
-  -- what is kept of the trees can be spelled
+  -- what is kept of the trees can be encoded
   rename_known : IsCanonicalDiff (rename_diff name w sheet) → IsKnownDiff (rename_diff name w sheet)
   rename_known numbers = known_diff (RenameDiff sheet.id sheet.name name trees) numbers shallow_trees tt
 
@@ -173,7 +173,7 @@ module _ (change : NameChange) (w : Book) (rules : IsWellFormed w) (output : IsM
       go None is = tt
       go (Some formatting) is = rule_shallow formatting (lost_rule_fits change.index w change.old change.new rules key formatting is)
 
-  -- a change and what is kept of it can be spelled
+  -- a change and what is kept of it can be encoded
   name_known : IsCanonicalDiff (name_diff w change) → IsKnownDiff (name_diff w change)
   name_known numbers =
       known_diff (NameDiff change lost) numbers (
@@ -199,9 +199,9 @@ shallow_going index None formattings stand at = tt
 shallow_going index (Some formatting) formattings stand at =
     rule_shallow formatting (both (has_parts formatting) (has_fitting_trees formatting) (passes_at may_stand formattings index formatting stand at)).1
 
--- changes that can be made one after the other can be spelled
+-- changes that can be made one after the other can be encoded
 changes_known : (id : ℕ) (changes : List RuleChange) (formattings : List ConditionalFormatting) → list_all may_stand formattings ≡ true → ChangesGo changes formattings
-    → AllByRecursion IsCanonicalDiff (map (RuleDiff id) changes) → AreSpellable (map (RuleDiff id) changes)
+    → AllByRecursion IsCanonicalDiff (map (RuleDiff id) changes) → AreEncodable (map (RuleDiff id) changes)
 changes_known id [] formattings stand go numbers = tt
 changes_known id (c ∷ changes) formattings stand go numbers = (
   known_diff (RuleDiff id c) numbers.0 (record { old = shallow_going c.index c.old formattings stand go.0.at; new = shallow_coming c.new go.0.fits }) tt,
@@ -211,46 +211,46 @@ changes_known id (c ∷ changes) formattings stand go numbers = (
 -- ---- records
 
 module _ (w : Book) (rules : IsWellFormed w) where
-  new_spellable : (id : Result ℕ EditError) → AreSpellable (one_diff (map_ok (new_diff w) id))
-  new_spellable (Ok id) = (tt, tt)
-  new_spellable (Err error) = tt
+  new_encodable : (id : Result ℕ EditError) → AreEncodable (one_diff (map_ok (new_diff w) id))
+  new_encodable (Ok id) = (tt, tt)
+  new_encodable (Err error) = tt
 
-  copy_spellable : (index : ℕ) (s : Result Sheet EditError) → AreSpellable (one_diff (and_then s (λ sheet. map_ok (copy_diff index w sheet) (next_id (ids_of w.worksheets)))))
-  copy_spellable index (Ok sheet) = of (next_id (ids_of w.worksheets))
+  copy_encodable : (index : ℕ) (s : Result Sheet EditError) → AreEncodable (one_diff (and_then s (λ sheet. map_ok (copy_diff index w sheet) (next_id (ids_of w.worksheets)))))
+  copy_encodable index (Ok sheet) = of (next_id (ids_of w.worksheets))
     where
-      of : (id : Result ℕ EditError) → AreSpellable (one_diff (map_ok (copy_diff index w sheet) id))
+      of : (id : Result ℕ EditError) → AreEncodable (one_diff (map_ok (copy_diff index w sheet) id))
       of (Ok id) = (tt, tt)
       of (Err error) = tt
-  copy_spellable index (Err error) = tt
+  copy_encodable index (Err error) = tt
 
-  deletion_spellable : (index : ℕ) (o : Option Sheet) → slice_get w.worksheets index ≡ o → IsCanonicalList (one_diff (map_ok (deletion_diff index w) (ok_or InvalidSheet o)))
-      → AreSpellable (one_diff (map_ok (deletion_diff index w) (ok_or InvalidSheet o)))
-  deletion_spellable index None found numbers = tt
-  deletion_spellable index (Some sheet) found numbers = (deletion_known index sheet w rules found (recursion_from_All IsCanonicalDiff (one_diff (Ok (deletion_diff index w sheet))) numbers).0, tt)
+  deletion_encodable : (index : ℕ) (o : Option Sheet) → slice_get w.worksheets index ≡ o → IsCanonicalList (one_diff (map_ok (deletion_diff index w) (ok_or InvalidSheet o)))
+      → AreEncodable (one_diff (map_ok (deletion_diff index w) (ok_or InvalidSheet o)))
+  deletion_encodable index None found numbers = tt
+  deletion_encodable index (Some sheet) found numbers = (deletion_known index sheet w rules found (recursion_from_All IsCanonicalDiff (one_diff (Ok (deletion_diff index w sheet))) numbers).0, tt)
 
-  move_spellable : (from to : ℕ) (s : Result Sheet EditError) → AreSpellable (one_diff (map_ok (move_diff from to) s))
-  move_spellable from to (Ok sheet) = (tt, tt)
-  move_spellable from to (Err error) = tt
+  move_encodable : (from to : ℕ) (s : Result Sheet EditError) → AreEncodable (one_diff (map_ok (move_diff from to) s))
+  move_encodable from to (Ok sheet) = (tt, tt)
+  move_encodable from to (Err error) = tt
 
-  rename_spellable : (index : ℕ) (name : List ℕ) (o : Option Sheet) → slice_get w.worksheets index ≡ o → IsCanonicalList (one_diff (map_ok (rename_diff name w) (ok_or InvalidSheet o)))
-      → AreSpellable (one_diff (map_ok (rename_diff name w) (ok_or InvalidSheet o)))
-  rename_spellable index name None found numbers = tt
-  rename_spellable index name (Some sheet) found numbers = (
+  rename_encodable : (index : ℕ) (name : List ℕ) (o : Option Sheet) → slice_get w.worksheets index ≡ o → IsCanonicalList (one_diff (map_ok (rename_diff name w) (ok_or InvalidSheet o)))
+      → AreEncodable (one_diff (map_ok (rename_diff name w) (ok_or InvalidSheet o)))
+  rename_encodable index name None found numbers = tt
+  rename_encodable index name (Some sheet) found numbers = (
     rename_known sheet name w rules (found_at index w.worksheets sheet (distinct_ids_from_well_formed w rules) found)
         (recursion_from_All IsCanonicalDiff (one_diff (Ok (rename_diff name w sheet))) numbers).0,
     tt,
   )
 
-  names_spellable : (edit : NameEdit) (r : Result NameChange EditError) → name_change edit w ≡ r → IsCanonicalList (one_diff (map_ok (name_diff w) r)) → AreSpellable (one_diff (map_ok (name_diff w) r))
-  names_spellable edit (Err error) found numbers = tt
-  names_spellable edit (Ok change) found numbers =
+  names_encodable : (edit : NameEdit) (r : Result NameChange EditError) → name_change edit w ≡ r → IsCanonicalList (one_diff (map_ok (name_diff w) r)) → AreEncodable (one_diff (map_ok (name_diff w) r))
+  names_encodable edit (Err error) found numbers = tt
+  names_encodable edit (Ok change) found numbers =
       (name_known change w rules (edited w rules edit change found).output (recursion_from_All IsCanonicalDiff (one_diff (Ok (name_diff w change))) numbers).0, tt)
 
-  rules_spellable : (edit : RuleEdit) → IsCanonicalList (rules_record edit w) → AreSpellable (rules_record edit w)
-  rules_spellable edit numbers = on_sheet (sheet_at w (sheet_index_of edit)) refl numbers
+  rules_encodable : (edit : RuleEdit) → IsCanonicalList (rules_record edit w) → AreEncodable (rules_record edit w)
+  rules_encodable edit numbers = on_sheet (sheet_at w (sheet_index_of edit)) refl numbers
     where
       on_changes : (sheet : Sheet) → sheet_at w (sheet_index_of edit) ≡ Ok sheet → (r : Result (List RuleChange) EditError) → rule_changes edit sheet.formattings ≡ r
-          → IsCanonicalList (all_diffs (map_ok (diffs_of sheet) r)) → AreSpellable (all_diffs (map_ok (diffs_of sheet) r))
+          → IsCanonicalList (all_diffs (map_ok (diffs_of sheet) r)) → AreEncodable (all_diffs (map_ok (diffs_of sheet) r))
       on_changes sheet at (Err error) output numbers = tt
       on_changes sheet at (Ok changes) output numbers =
           let stand = sheet_rules_stand w rules sheet.id sheet (there w rules (sheet_index_of edit) sheet at) in
@@ -260,38 +260,38 @@ module _ (w : Book) (rules : IsWellFormed w) where
       diffs : Result Sheet EditError → List Diff
       diffs s = all_diffs (and_then s (λ sheet. map_ok (diffs_of sheet) (rule_changes edit sheet.formattings)))
 
-      on_sheet : (s : Result Sheet EditError) → sheet_at w (sheet_index_of edit) ≡ s → IsCanonicalList (diffs s) → AreSpellable (diffs s)
+      on_sheet : (s : Result Sheet EditError) → sheet_at w (sheet_index_of edit) ≡ s → IsCanonicalList (diffs s) → AreEncodable (diffs s)
       on_sheet (Err error) at numbers = tt
       on_sheet (Ok sheet) at numbers = on_changes sheet at (rule_changes edit sheet.formattings) refl numbers
 
-  setting_spellable : (setting : Setting) → AreSpellable (setting_record setting w)
-  setting_spellable setting = go (has_setting setting w)
+  setting_encodable : (setting : Setting) → AreEncodable (setting_record setting w)
+  setting_encodable setting = go (has_setting setting w)
     where
-      go : (b : Bool) → AreSpellable (cond b [] (SettingDiff (change_to setting w) ∷ []))
+      go : (b : Bool) → AreEncodable (cond b [] (SettingDiff (change_to setting w) ∷ []))
       go true = tt
       go false = (tt, tt)
 
-  pub sheets_spellable : (edit : Edit) → IsTrue (is_of_sheets edit) → (later : Book) → IsCanonicalList (record_of edit w later) → AreSpellable (record_of edit w later)
-  sheets_spellable AddSheet is later numbers = new_spellable (next_id (ids_of w.worksheets))
-  sheets_spellable (CopySheet index) is later numbers = copy_spellable index (sheet_at w index)
-  sheets_spellable (DeleteSheet index) is later numbers = deletion_spellable index (slice_get w.worksheets index) refl numbers
-  sheets_spellable (MoveSheet from to) is later numbers = move_spellable from to (sheet_at w from)
-  sheets_spellable (RenameSheet index name) is later numbers = rename_spellable index name (slice_get w.worksheets index) refl numbers
-  sheets_spellable (ChangeNames edit) is later numbers = names_spellable edit (name_change edit w) refl numbers
-  sheets_spellable (EditRules edit) is later numbers = rules_spellable edit numbers
-  sheets_spellable (SetSetting setting) is later numbers = setting_spellable setting
-  sheets_spellable (Input index row column content feeds) is later numbers = absurd (let never : false ≡ true = is in cc)
-  sheets_spellable (ArrayInput index r tree) is later numbers = absurd (let never : false ≡ true = is in cc)
-  sheets_spellable (SetLink index row column link) is later numbers = absurd (let never : false ≡ true = is in cc)
-  sheets_spellable (Merge index r) is later numbers = absurd (let never : false ≡ true = is in cc)
-  sheets_spellable (Unmerge index row column) is later numbers = absurd (let never : false ≡ true = is in cc)
-  sheets_spellable (Lines index axis kind) is later numbers = absurd (let never : false ≡ true = is in cc)
-  sheets_spellable (MoveLines index axis first count delta) is later numbers = absurd (let never : false ≡ true = is in cc)
-  sheets_spellable (SetField index value) is later numbers = absurd (let never : false ≡ true = is in cc)
-  sheets_spellable (SetSize index axis first last size) is later numbers = absurd (let never : false ≡ true = is in cc)
-  sheets_spellable (SetHidden index axis first last hidden) is later numbers = absurd (let never : false ≡ true = is in cc)
-  sheets_spellable (SetRangeStyle index r path value) is later numbers = absurd (let never : false ≡ true = is in cc)
-  sheets_spellable (ClearRange index clearing r) is later numbers = absurd (let never : false ≡ true = is in cc)
-  sheets_spellable (ClearFormatting index r) is later numbers = absurd (let never : false ≡ true = is in cc)
-  sheets_spellable (PasteStyles index r styles) is later numbers = absurd (let never : false ≡ true = is in cc)
-  sheets_spellable (Fill index axis source to language) is later numbers = absurd (let never : false ≡ true = is in cc)
+  pub sheets_encodable : (edit : Edit) → IsTrue (is_of_sheets edit) → (later : Book) → IsCanonicalList (record_of edit w later) → AreEncodable (record_of edit w later)
+  sheets_encodable AddSheet is later numbers = new_encodable (next_id (ids_of w.worksheets))
+  sheets_encodable (CopySheet index) is later numbers = copy_encodable index (sheet_at w index)
+  sheets_encodable (DeleteSheet index) is later numbers = deletion_encodable index (slice_get w.worksheets index) refl numbers
+  sheets_encodable (MoveSheet from to) is later numbers = move_encodable from to (sheet_at w from)
+  sheets_encodable (RenameSheet index name) is later numbers = rename_encodable index name (slice_get w.worksheets index) refl numbers
+  sheets_encodable (ChangeNames edit) is later numbers = names_encodable edit (name_change edit w) refl numbers
+  sheets_encodable (EditRules edit) is later numbers = rules_encodable edit numbers
+  sheets_encodable (SetSetting setting) is later numbers = setting_encodable setting
+  sheets_encodable (Input index row column content feeds) is later numbers = absurd (let never : false ≡ true = is in cc)
+  sheets_encodable (ArrayInput index r tree) is later numbers = absurd (let never : false ≡ true = is in cc)
+  sheets_encodable (SetLink index row column link) is later numbers = absurd (let never : false ≡ true = is in cc)
+  sheets_encodable (Merge index r) is later numbers = absurd (let never : false ≡ true = is in cc)
+  sheets_encodable (Unmerge index row column) is later numbers = absurd (let never : false ≡ true = is in cc)
+  sheets_encodable (Lines index axis kind) is later numbers = absurd (let never : false ≡ true = is in cc)
+  sheets_encodable (MoveLines index axis first count delta) is later numbers = absurd (let never : false ≡ true = is in cc)
+  sheets_encodable (SetField index value) is later numbers = absurd (let never : false ≡ true = is in cc)
+  sheets_encodable (SetSize index axis first last size) is later numbers = absurd (let never : false ≡ true = is in cc)
+  sheets_encodable (SetHidden index axis first last hidden) is later numbers = absurd (let never : false ≡ true = is in cc)
+  sheets_encodable (SetRangeStyle index r path value) is later numbers = absurd (let never : false ≡ true = is in cc)
+  sheets_encodable (ClearRange index clearing r) is later numbers = absurd (let never : false ≡ true = is in cc)
+  sheets_encodable (ClearFormatting index r) is later numbers = absurd (let never : false ≡ true = is in cc)
+  sheets_encodable (PasteStyles index r styles) is later numbers = absurd (let never : false ≡ true = is in cc)
+  sheets_encodable (Fill index axis source to language) is later numbers = absurd (let never : false ≡ true = is in cc)

@@ -1,4 +1,4 @@
--- What is read was spelled so, up to the bytes that are left: the law of each part of a format.
+-- What is read was encoded so, up to the bytes that are left: the law of each part of a format.
 use Rattle.std.proofs.Common.{◌≡◌, ℕ, zero, suc, ℤ, ◌+◌, ◌^◌, ◌<◌, ◌≤◌, ltb, eqb, Bool, true, false, cond, if◌then◌else◌, nat_eq, List, [], ◌∷◌, ◌++◌, length, get_or, take, drop, Option, Some, None, Result, Ok, Err, refl, sym, ap, subst, ◌∙◌, append_assoc, arith, inl, inr}
 use Rattle.std.specs.Prelude.{IfSome, FitsSigned, ◌==◌}
 use Rattle.std.specs.Str.{is_utf8}
@@ -17,8 +17,8 @@ use Rattle.base_values.specs.declared.EditError.TheVariants.{ParseDiffs}
 use Rattle.base_values.specs.Answers.{ok_or}
 use Rattle.base_wire.specs.laws.Sixteen.{be_bytes_16, be_bytes_16_below}
 use Rattle.base_wire.specs.laws.Reading.{Reader, ◌>>=◌, refused, plain, map_at, ◌⊗◌, check_at, byte_at, tagged_at, decoded, coded_at, code_at, number_at, signed_at, bytes_at, text_at, option_of, option_at, many_at, count_at, list_at, rest_after, after, whole}
-use Rattle.base_wire.specs.Spelling.{spell_signed, spell_code, spell_text, spell_option, spell_list, FitsText, FitsItems}
-use Rattle.base_wire.specs.Spelling.{Any, Both, spell_both}
+use Rattle.base_wire.specs.Encoding.{encode_signed, encode_code, encode_text, encode_option, encode_list, FitsText, FitsItems}
+use Rattle.base_wire.specs.Encoding.{Any, Both, encode_both}
 
 -- each is a byte
 abbrev pub IsBytes : List ℕ → Type 0
@@ -34,15 +34,15 @@ IsBytes-take n bytes h i =
       | inr le ↦ rw (get_or_past (take n bytes) i 0 (omega (arith, length-take n bytes))) (omega arith)
     ]
 
--- the bytes are the spelling of a value that fits, and what is left
-pub record IsSpelled {A : Type 0} (Fits : A → Type 0) (spell : A → List ℕ) (bytes : List ℕ) (x : A) (rest : List ℕ) : Type 0 where
-  pub parts : bytes ≡ spell x ++ rest
+-- the bytes are the encoding of a value that fits, and what is left
+pub record IsEncoded {A : Type 0} (Fits : A → Type 0) (encode : A → List ℕ) (bytes : List ℕ) (x : A) (rest : List ℕ) : Type 0 where
+  pub parts : bytes ≡ encode x ++ rest
   pub fits : Fits x
   pub left : IsBytes rest
 
--- what is read was spelled so
-pub record ReadsSpelled {A : Type 0} (Fits : A → Type 0) (spell : A → List ℕ) (read : Reader A) : Type 0 where
-  pub spelled : (bytes : List ℕ) (x : A × List ℕ) → IsBytes bytes → read bytes ≡ Ok x → IsSpelled Fits spell bytes x.0 x.1
+-- what is read was encoded so
+pub record ReadsEncoded {A : Type 0} (Fits : A → Type 0) (encode : A → List ℕ) (read : Reader A) : Type 0 where
+  pub encoded : (bytes : List ℕ) (x : A × List ℕ) → IsBytes bytes → read bytes ≡ Ok x → IsEncoded Fits encode bytes x.0 x.1
 
 -- ---- steps
 
@@ -68,15 +68,15 @@ unfailed true x y e = absurd cc
 unfailed false x y e = (refl, cc)
 
 module _ {A B : Type 0} {F : A → Type 0} {G : B → Type 0} {s : A → List ℕ} {t : B → List ℕ} {r : Reader A} {q : Reader B} where
-  pub both_spelled : ReadsSpelled F s r → ReadsSpelled G t q → ReadsSpelled (Both F G) (spell_both s t) (r ⊗ q)
-  both_spelled first second = record {
-    spelled = λ bytes x small e.
+  pub both_encoded : ReadsEncoded F s r → ReadsEncoded G t q → ReadsEncoded (Both F G) (encode_both s t) (r ⊗ q)
+  both_encoded first second = record {
+    encoded = λ bytes x small e.
         let a = bind_ok (r bytes) (λ y. q y.1 >>= λ z. Ok ((y.0, z.0), z.1)) x e in
         let b = bind_ok (q a.0.1) (λ z. Ok ((a.0.0, z.0), z.1)) x a.2 in
-        let one = first.spelled bytes a.0 small a.1 in
-        let two = second.spelled a.0.1 b.0 one.left b.1 in
+        let one = first.encoded bytes a.0 small a.1 in
+        let two = second.encoded a.0.1 b.0 one.left b.1 in
         let output : (A × B) × List ℕ = ((a.0.0, b.0.0), b.0.1) in
-        subst (λ (z : (A × B) × List ℕ). IsSpelled (Both F G) (spell_both s t) bytes z.0 z.1) (ok_is output x b.2)
+        subst (λ (z : (A × B) × List ℕ). IsEncoded (Both F G) (encode_both s t) bytes z.0 z.1) (ok_is output x b.2)
         (record {
           parts = one.parts ∙ ap (λ (w : List ℕ). s a.0.0 ++ w) two.parts ∙ sym (append_assoc (s a.0.0) (t b.0.0) b.0.1);
           fits = (one.fits, two.fits);
@@ -86,13 +86,13 @@ module _ {A B : Type 0} {F : A → Type 0} {G : B → Type 0} {s : A → List �
 
 module _ {A B : Type 0} {F : A → Type 0} {s : A → List ℕ} {r : Reader A} where
   -- a value that is made of what is read
-  pub map_spelled : ReadsSpelled F s r → (f : A → B) (g : B → A) → ((x : A) → g (f x) ≡ x) → ReadsSpelled (λ y. F (g y)) (λ y. s (g y)) (map_at f r)
-  map_spelled law f g inverse = record {
-    spelled = λ bytes x small e.
+  pub map_encoded : ReadsEncoded F s r → (f : A → B) (g : B → A) → ((x : A) → g (f x) ≡ x) → ReadsEncoded (λ y. F (g y)) (λ y. s (g y)) (map_at f r)
+  map_encoded law f g inverse = record {
+    encoded = λ bytes x small e.
         let a = bind_ok (r bytes) (λ y. Ok (f y.0, y.1)) x e in
-        let one = law.spelled bytes a.0 small a.1 in
+        let one = law.encoded bytes a.0 small a.1 in
         let output : B × List ℕ = (f a.0.0, a.0.1) in
-        subst (λ (z : B × List ℕ). IsSpelled (λ y. F (g y)) (λ y. s (g y)) bytes z.0 z.1) (ok_is output x a.2)
+        subst (λ (z : B × List ℕ). IsEncoded (λ y. F (g y)) (λ y. s (g y)) bytes z.0 z.1) (ok_is output x a.2)
         (record {
           parts = one.parts ∙ ap (λ (v : A). s v ++ a.0.1) (sym (inverse a.0.0));
           fits = subst F (sym (inverse a.0.0)) one.fits;
@@ -101,18 +101,18 @@ module _ {A B : Type 0} {F : A → Type 0} {s : A → List ℕ} {r : Reader A} w
   }
 
 -- what fits in one way fits in another
-pub fits_otherwise : {A : Type 0} {F G : A → Type 0} {s : A → List ℕ} {r : Reader A} → ((x : A) → F x → G x) → ReadsSpelled F s r → ReadsSpelled G s r
+pub fits_otherwise : {A : Type 0} {F G : A → Type 0} {s : A → List ℕ} {r : Reader A} → ((x : A) → F x → G x) → ReadsEncoded F s r → ReadsEncoded G s r
 fits_otherwise change law = record {
-  spelled = λ bytes x small e. let one = law.spelled bytes x small e in record { parts = one.parts; fits = change x.0 one.fits; left = one.left };
+  encoded = λ bytes x small e. let one = law.encoded bytes x small e in record { parts = one.parts; fits = change x.0 one.fits; left = one.left };
 }
 
-pub check_spelled : {A : Type 0} {F : A → Type 0} {s : A → List ℕ} {r : Reader A} → ReadsSpelled F s r → (test : A → Bool) → ReadsSpelled (λ x. F x × (test x ≡ true)) s (check_at test r)
-check_spelled {A} {F} {s} {r} law test = record {
-  spelled = λ bytes x small e.
+pub check_encoded : {A : Type 0} {F : A → Type 0} {s : A → List ℕ} {r : Reader A} → ReadsEncoded F s r → (test : A → Bool) → ReadsEncoded (λ x. F x × (test x ≡ true)) s (check_at test r)
+check_encoded {A} {F} {s} {r} law test = record {
+  encoded = λ bytes x small e.
       let a = bind_ok (r bytes) (λ y. if test y.0 then Ok y else Err ParseDiffs) x e in
       let p = passed (test a.0.0) a.0 x a.2 in
-      let one = law.spelled bytes a.0 small a.1 in
-      subst (λ (z : A × List ℕ). IsSpelled (λ x. F x × (test x ≡ true)) s bytes z.0 z.1) p.1
+      let one = law.encoded bytes a.0 small a.1 in
+      subst (λ (z : A × List ℕ). IsEncoded (λ x. F x × (test x ≡ true)) s bytes z.0 z.1) p.1
       (record { parts = one.parts; fits = (one.fits, p.0); left = one.left });
 }
 
@@ -125,9 +125,9 @@ some_byte (b ∷ rest) x e = ap (λ (z : ℕ × List ℕ). z.0 ∷ z.1) (ok_is (
 tail_bytes : (b : ℕ) (rest bytes : List ℕ) → bytes ≡ b ∷ rest → IsBytes bytes → IsBytes rest
 tail_bytes b rest bytes e small i = subst IsBytes e small (suc i)
 
-pub byte_spelled : ReadsSpelled (λ b. b < 2 ^ 8) (λ b. b ∷ []) byte_at
-byte_spelled = record {
-  spelled = λ bytes x small e.
+pub byte_encoded : ReadsEncoded (λ b. b < 2 ^ 8) (λ b. b ∷ []) byte_at
+byte_encoded = record {
+  encoded = λ bytes x small e.
       let parts = some_byte bytes x e in
       record { parts = parts; fits = subst IsBytes parts small 0; left = tail_bytes x.0 x.1 bytes parts small };
 }
@@ -145,32 +145,32 @@ some_value : {A : Type 0} (o : Option A) (x : A) → ok_or ParseDiffs o ≡ Ok x
 some_value None x e = absurd cc
 some_value (Some y) x e = ap Some (ok_is y x e)
 
-pub coded_spelled : {A : Type 0} (code_of : A → ℕ) (value_of : ℕ → Option A) → ((code : ℕ) (x : A) → value_of code ≡ Some x → code_of x ≡ code) → ReadsSpelled Any (spell_code code_of) (coded_at value_of)
-coded_spelled {A} code_of value_of found = record {
-  spelled = λ bytes x small e.
+pub coded_encoded : {A : Type 0} (code_of : A → ℕ) (value_of : ℕ → Option A) → ((code : ℕ) (x : A) → value_of code ≡ Some x → code_of x ≡ code) → ReadsEncoded Any (encode_code code_of) (coded_at value_of)
+coded_encoded {A} code_of value_of found = record {
+  encoded = λ bytes x small e.
       let a = bind_ok (byte_at bytes) (λ code. ok_or ParseDiffs (value_of code.0) >>= λ value. Ok (value, code.1)) x e in
       let b = bind_ok (ok_or ParseDiffs (value_of a.0.0)) (λ value. Ok (value, a.0.1)) x a.2 in
       let code = found a.0.0 b.0 (some_value _ _ b.1) in
-      let one = byte_spelled.spelled bytes a.0 small a.1 in
+      let one = byte_encoded.encoded bytes a.0 small a.1 in
       let output : A × List ℕ = (b.0, a.0.1) in
-      subst (λ (z : A × List ℕ). IsSpelled Any (spell_code code_of) bytes z.0 z.1) (ok_is output x b.2)
+      subst (λ (z : A × List ℕ). IsEncoded Any (encode_code code_of) bytes z.0 z.1) (ok_is output x b.2)
       (record { parts = one.parts ∙ ap (λ (k : ℕ). k ∷ a.0.1) (sym code); fits = tt; left = one.left });
 }
 
-pub code_spelled : {A : Type 0} (code_of : A → ℕ) (values : List A) → ReadsSpelled Any (spell_code code_of) (code_at code_of values)
-code_spelled code_of values = coded_spelled code_of (decoded code_of values) (found_code code_of values)
+pub code_encoded : {A : Type 0} (code_of : A → ℕ) (values : List A) → ReadsEncoded Any (encode_code code_of) (code_at code_of values)
+code_encoded code_of values = coded_encoded code_of (decoded code_of values) (found_code code_of values)
 
--- what a reader reads after this tag was spelled with it
-pub record TagSpelled {A : Type 0} (Fits : A → Type 0) (spell : A → List ℕ) (tag : ℕ) (read : Reader A) : Type 0 where
-  pub tagged : (bytes : List ℕ) (x : A × List ℕ) → IsBytes bytes → read bytes ≡ Ok x → IsSpelled Fits spell (tag ∷ bytes) x.0 x.1
+-- what a reader reads after this tag was encoded with it
+pub record TagEncoded {A : Type 0} (Fits : A → Type 0) (encode : A → List ℕ) (tag : ℕ) (read : Reader A) : Type 0 where
+  pub tagged : (bytes : List ℕ) (x : A × List ℕ) → IsBytes bytes → read bytes ≡ Ok x → IsEncoded Fits encode (tag ∷ bytes) x.0 x.1
 
-pub tag_map : {A B : Type 0} {F : A → Type 0} {s : A → List ℕ} {r : Reader A} → ReadsSpelled F s r → (f : A → B) (Fits : B → Type 0) (spell : B → List ℕ) (tag : ℕ) → ((x : A) → spell (f x) ≡ tag ∷ s x) → ((x : A) → F x → Fits (f x)) → TagSpelled Fits spell tag (map_at f r)
-tag_map {A} {B} {F} {s} {r} law f Fits spell tag form fit = record {
+pub tag_map : {A B : Type 0} {F : A → Type 0} {s : A → List ℕ} {r : Reader A} → ReadsEncoded F s r → (f : A → B) (Fits : B → Type 0) (encode : B → List ℕ) (tag : ℕ) → ((x : A) → encode (f x) ≡ tag ∷ s x) → ((x : A) → F x → Fits (f x)) → TagEncoded Fits encode tag (map_at f r)
+tag_map {A} {B} {F} {s} {r} law f Fits encode tag form fit = record {
   tagged = λ bytes x small e.
       let a = bind_ok (r bytes) (λ y. Ok (f y.0, y.1)) x e in
-      let one = law.spelled bytes a.0 small a.1 in
+      let one = law.encoded bytes a.0 small a.1 in
       let output : B × List ℕ = (f a.0.0, a.0.1) in
-      subst (λ (z : B × List ℕ). IsSpelled Fits spell (tag ∷ bytes) z.0 z.1) (ok_is output x a.2)
+      subst (λ (z : B × List ℕ). IsEncoded Fits encode (tag ∷ bytes) z.0 z.1) (ok_is output x a.2)
       (record {
         parts = ap (λ (w : List ℕ). tag ∷ w) one.parts ∙ ap (λ (w : List ℕ). w ++ a.0.1) (sym (form a.0.0));
         fits = fit a.0.0 one.fits;
@@ -178,39 +178,39 @@ tag_map {A} {B} {F} {s} {r} law f Fits spell tag form fit = record {
       });
 }
 
-pub tag_plain : {A : Type 0} (Fits : A → Type 0) (spell : A → List ℕ) (tag : ℕ) (x : A) → spell x ≡ tag ∷ [] → Fits x → TagSpelled Fits spell tag (plain x)
-tag_plain {A} Fits spell tag x form fit = record {
+pub tag_plain : {A : Type 0} (Fits : A → Type 0) (encode : A → List ℕ) (tag : ℕ) (x : A) → encode x ≡ tag ∷ [] → Fits x → TagEncoded Fits encode tag (plain x)
+tag_plain {A} Fits encode tag x form fit = record {
   tagged = λ bytes y small e.
       let output : A × List ℕ = (x, bytes) in
-      subst (λ (z : A × List ℕ). IsSpelled Fits spell (tag ∷ bytes) z.0 z.1) (ok_is output y e)
+      subst (λ (z : A × List ℕ). IsEncoded Fits encode (tag ∷ bytes) z.0 z.1) (ok_is output y e)
       (record { parts = ap (λ (w : List ℕ). w ++ bytes) (sym form); fits = fit; left = small });
 }
 
-pub tag_refused : {A : Type 0} (Fits : A → Type 0) (spell : A → List ℕ) (tag : ℕ) → TagSpelled Fits spell tag refused
-tag_refused Fits spell tag = record { tagged = λ bytes x small e. absurd cc }
+pub tag_refused : {A : Type 0} (Fits : A → Type 0) (encode : A → List ℕ) (tag : ℕ) → TagEncoded Fits encode tag refused
+tag_refused Fits encode tag = record { tagged = λ bytes x small e. absurd cc }
 
 -- one tag more
-pub tag_if : {A : Type 0} {Fits : A → Type 0} {spell : A → List ℕ} {read others : Reader A} (tag code : ℕ) → TagSpelled Fits spell code read → TagSpelled Fits spell tag others → TagSpelled Fits spell tag (if tag == code then read else others)
-tag_if {A} {Fits} {spell} {read} {others} tag code one rest = by_test (eqb tag code) refl
+pub tag_if : {A : Type 0} {Fits : A → Type 0} {encode : A → List ℕ} {read others : Reader A} (tag code : ℕ) → TagEncoded Fits encode code read → TagEncoded Fits encode tag others → TagEncoded Fits encode tag (if tag == code then read else others)
+tag_if {A} {Fits} {encode} {read} {others} tag code one rest = by_test (eqb tag code) refl
   where
-    by_test : (b : Bool) → eqb tag code ≡ b → TagSpelled Fits spell tag (if b then read else others)
-    by_test true same = subst (λ (k : ℕ). TagSpelled Fits spell k read) (sym (eqb-true tag code same)) one
+    by_test : (b : Bool) → eqb tag code ≡ b → TagEncoded Fits encode tag (if b then read else others)
+    by_test true same = subst (λ (k : ℕ). TagEncoded Fits encode k read) (sym (eqb-true tag code same)) one
     by_test false same = rest
 
-pub tagged_spelled : {A : Type 0} {Fits : A → Type 0} {spell : A → List ℕ} (reader_of : ℕ → Reader A) → ((tag : ℕ) → TagSpelled Fits spell tag (reader_of tag)) → ReadsSpelled Fits spell (tagged_at reader_of)
-tagged_spelled {A} {Fits} {spell} reader_of each = record {
-  spelled = λ bytes x small e.
+pub tagged_encoded : {A : Type 0} {Fits : A → Type 0} {encode : A → List ℕ} (reader_of : ℕ → Reader A) → ((tag : ℕ) → TagEncoded Fits encode tag (reader_of tag)) → ReadsEncoded Fits encode (tagged_at reader_of)
+tagged_encoded {A} {Fits} {encode} reader_of each = record {
+  encoded = λ bytes x small e.
       let a = bind_ok (byte_at bytes) (λ tag. reader_of tag.0 tag.1) x e in
-      let one = byte_spelled.spelled bytes a.0 small a.1 in
-      subst (λ (w : List ℕ). IsSpelled Fits spell w x.0 x.1) (sym one.parts) ((each a.0.0).tagged a.0.1 x one.left a.2);
+      let one = byte_encoded.encoded bytes a.0 small a.1 in
+      subst (λ (w : List ℕ). IsEncoded Fits encode w x.0 x.1) (sym one.parts) ((each a.0.0).tagged a.0.1 x one.left a.2);
 }
 
-pub option_spelled : {A : Type 0} {F : A → Type 0} {s : A → List ℕ} {r : Reader A} → ReadsSpelled F s r → ReadsSpelled (λ o. IfSome o F) (spell_option s) (option_at r)
-option_spelled {A} {F} {s} {r} law =
-    tagged_spelled (option_of r) (λ flag.
-    tag_if flag 0 (tag_plain (λ o. IfSome o F) (spell_option s) 0 None refl tt)
-    (tag_if flag 1 (tag_map law Some (λ o. IfSome o F) (spell_option s) 1 (λ x. refl) (λ x fits. fits))
-    (tag_refused (λ o. IfSome o F) (spell_option s) flag)))
+pub option_encoded : {A : Type 0} {F : A → Type 0} {s : A → List ℕ} {r : Reader A} → ReadsEncoded F s r → ReadsEncoded (λ o. IfSome o F) (encode_option s) (option_at r)
+option_encoded {A} {F} {s} {r} law =
+    tagged_encoded (option_of r) (λ flag.
+    tag_if flag 0 (tag_plain (λ o. IfSome o F) (encode_option s) 0 None refl tt)
+    (tag_if flag 1 (tag_map law Some (λ o. IfSome o F) (encode_option s) 1 (λ x. refl) (λ x fits. fits))
+    (tag_refused (λ o. IfSome o F) (encode_option s) flag)))
 
 -- ---- numbers and texts
 
@@ -233,13 +233,13 @@ back64 = record {
 pub back128 : IsReadBack w128
 back128 = record { back = be_bytes_16; below = be_bytes_16_below }
 
-pub number_spelled : {w : Width} → IsReadBack w → ReadsSpelled (λ n. n < 2 ^ bits w) (to_be_bytes w) (number_at w)
-number_spelled {w} again = record {
-  spelled = λ bytes x small e.
+pub number_encoded : {w : Width} → IsReadBack w → ReadsEncoded (λ n. n < 2 ^ bits w) (to_be_bytes w) (number_at w)
+number_encoded {w} again = record {
+  encoded = λ bytes x small e.
       let g = unfailed (ltb (length bytes) (byte_len w)) (from_be_bytes w (take (byte_len w) bytes), drop (byte_len w) bytes) x e in
       let long : byte_len w ≤ length bytes = ltb-false _ _ g.0 in
       let front = again.back (take (byte_len w) bytes) (omega (arith, length-take (byte_len w) bytes)) (IsBytes-take (byte_len w) bytes small) in
-      subst (λ (z : ℕ × List ℕ). IsSpelled (λ n. n < 2 ^ bits w) (to_be_bytes w) bytes z.0 z.1) g.1
+      subst (λ (z : ℕ × List ℕ). IsEncoded (λ n. n < 2 ^ bits w) (to_be_bytes w) bytes z.0 z.1) g.1
       (record {
         parts = rw front (sym (take-append-drop (byte_len w) bytes));
         fits = again.below (take (byte_len w) bytes) (IsBytes-take (byte_len w) bytes small);
@@ -247,13 +247,13 @@ number_spelled {w} again = record {
       });
 }
 
-pub signed_spelled : {w : Width} → IsReadBack w → ReadsSpelled (FitsSigned w) (spell_signed w) (signed_at w)
-signed_spelled {w} again = record {
-  spelled = λ bytes x small e.
+pub signed_encoded : {w : Width} → IsReadBack w → ReadsEncoded (FitsSigned w) (encode_signed w) (signed_at w)
+signed_encoded {w} again = record {
+  encoded = λ bytes x small e.
       let a = bind_ok (number_at w bytes) (λ n. Ok (cast_signed w n.0, n.1)) x e in
-      let one = (number_spelled again).spelled bytes a.0 small a.1 in
+      let one = (number_encoded again).encoded bytes a.0 small a.1 in
       let output : ℤ × List ℕ = (cast_signed w a.0.0, a.0.1) in
-      subst (λ (z : ℤ × List ℕ). IsSpelled (FitsSigned w) (spell_signed w) bytes z.0 z.1) (ok_is output x a.2)
+      subst (λ (z : ℤ × List ℕ). IsEncoded (FitsSigned w) (encode_signed w) bytes z.0 z.1) (ok_is output x a.2)
       (record {
         parts = one.parts ∙ ap (λ (n : ℕ). to_be_bytes w n ++ a.0.1) (sym (of_z-to_z w a.0.0 one.fits));
         fits = sfits_to_z (record { fits = one.fits });
@@ -261,22 +261,22 @@ signed_spelled {w} again = record {
       });
 }
 
-bytes_spelled : (n : ℕ) → ReadsSpelled (λ text. length text ≡ n) (λ text. text) (bytes_at n)
-bytes_spelled n = record {
-  spelled = λ bytes x small e.
+bytes_encoded : (n : ℕ) → ReadsEncoded (λ text. length text ≡ n) (λ text. text) (bytes_at n)
+bytes_encoded n = record {
+  encoded = λ bytes x small e.
       let g = unfailed (ltb (length bytes) n) (take n bytes, drop n bytes) x e in
       let long : n ≤ length bytes = ltb-false _ _ g.0 in
-      subst (λ (z : List ℕ × List ℕ). IsSpelled (λ text. length text ≡ n) (λ text. text) bytes z.0 z.1) g.1
+      subst (λ (z : List ℕ × List ℕ). IsEncoded (λ text. length text ≡ n) (λ text. text) bytes z.0 z.1) g.1
       (record { parts = sym (take-append-drop n bytes); fits = omega (arith, length-take n bytes); left = IsBytes-drop n bytes small });
 }
 
-pub text_spelled : ReadsSpelled FitsText spell_text text_at
+pub text_encoded : ReadsEncoded FitsText encode_text text_at
 unfolding text_at
-text_spelled = record {
-  spelled = λ bytes x small e.
+text_encoded = record {
+  encoded = λ bytes x small e.
       let a = bind_ok (number_at w64 bytes) (λ n. check_at is_utf8 (bytes_at n.0) n.1) x e in
-      let one = (number_spelled back64).spelled bytes a.0 small a.1 in
-      let two = (check_spelled (bytes_spelled a.0.0) is_utf8).spelled a.0.1 x one.left a.2 in
+      let one = (number_encoded back64).encoded bytes a.0 small a.1 in
+      let two = (check_encoded (bytes_encoded a.0.0) is_utf8).encoded a.0.1 x one.left a.2 in
       record {
         parts =
             one.parts ∙ ap (λ (w : List ℕ). to_be_bytes w64 a.0.0 ++ w) two.parts ∙ sym (append_assoc (to_be_bytes w64 a.0.0) x.0 x.1)
@@ -289,32 +289,32 @@ text_spelled = record {
 -- ---- lists
 
 module _ {A : Type 0} {F : A → Type 0} {s : A → List ℕ} {r : Reader A} where
-  many_spelled : ReadsSpelled F s r → (n : ℕ) (bytes : List ℕ) (x : List A × List ℕ) → IsBytes bytes → many_at r n bytes ≡ Ok x → IsSpelled (λ xs. (length xs ≡ n) × AllByRecursion F xs) (flat_map s) bytes x.0 x.1
+  many_encoded : ReadsEncoded F s r → (n : ℕ) (bytes : List ℕ) (x : List A × List ℕ) → IsBytes bytes → many_at r n bytes ≡ Ok x → IsEncoded (λ xs. (length xs ≡ n) × AllByRecursion F xs) (flat_map s) bytes x.0 x.1
   unfolding many_at
-  many_spelled law zero bytes x small e =
-      subst (λ (z : List A × List ℕ). IsSpelled (λ xs. (length xs ≡ 0) × AllByRecursion F xs) (flat_map s) bytes z.0 z.1) (ok_is ([], bytes) x e)
+  many_encoded law zero bytes x small e =
+      subst (λ (z : List A × List ℕ). IsEncoded (λ xs. (length xs ≡ 0) × AllByRecursion F xs) (flat_map s) bytes z.0 z.1) (ok_is ([], bytes) x e)
       (record { parts = refl; fits = (refl, tt); left = small })
-  many_spelled law (suc n) bytes x small e =
+  many_encoded law (suc n) bytes x small e =
       let a = bind_ok (r bytes) (λ first. many_at r n first.1 >>= λ others. Ok (first.0 ∷ others.0, others.1)) x e in
       let b = bind_ok (many_at r n a.0.1) (λ others. Ok (a.0.0 ∷ others.0, others.1)) x a.2 in
-      let one = law.spelled bytes a.0 small a.1 in
-      let two = many_spelled law n a.0.1 b.0 one.left b.1 in
+      let one = law.encoded bytes a.0 small a.1 in
+      let two = many_encoded law n a.0.1 b.0 one.left b.1 in
       let output : List A × List ℕ = (a.0.0 ∷ b.0.0, b.0.1) in
-      subst (λ (z : List A × List ℕ). IsSpelled (λ xs. (length xs ≡ suc n) × AllByRecursion F xs) (flat_map s) bytes z.0 z.1) (ok_is output x b.2)
+      subst (λ (z : List A × List ℕ). IsEncoded (λ xs. (length xs ≡ suc n) × AllByRecursion F xs) (flat_map s) bytes z.0 z.1) (ok_is output x b.2)
       (record {
         parts = one.parts ∙ ap (λ (w : List ℕ). s a.0.0 ++ w) two.parts ∙ sym (append_assoc (s a.0.0) (flat_map s b.0.0) b.0.1);
         fits = (ap suc two.fits.0, (one.fits, two.fits.1));
         left = two.left;
       })
 
-  pub list_spelled : ReadsSpelled F s r → ReadsSpelled (FitsItems F) (spell_list s) (list_at r)
-  list_spelled law = record {
-    spelled = λ bytes x small e.
+  pub list_encoded : ReadsEncoded F s r → ReadsEncoded (FitsItems F) (encode_list s) (list_at r)
+  list_encoded law = record {
+    encoded = λ bytes x small e.
         let a = bind_ok (count_at bytes) (λ n. many_at r n.0 n.1) x e in
         let b = bind_ok (number_at w64 bytes) (λ n. if ltb (length n.1) n.0 then Err ParseDiffs else Ok n) a.0 a.1 in
         let same = (unfailed (ltb (length b.0.1) b.0.0) b.0 a.0 b.2).1 in
-        let one = (number_spelled back64).spelled bytes a.0 small (b.1 ∙ ap Ok same) in
-        let two = many_spelled law a.0.0 a.0.1 x one.left a.2 in
+        let one = (number_encoded back64).encoded bytes a.0 small (b.1 ∙ ap Ok same) in
+        let two = many_encoded law a.0.0 a.0.1 x one.left a.2 in
         record {
           parts =
               one.parts ∙ ap (λ (w : List ℕ). to_be_bytes w64 a.0.0 ++ w) two.parts ∙ sym (append_assoc (to_be_bytes w64 a.0.0) (flat_map s x.0) x.1)
@@ -326,14 +326,14 @@ module _ {A : Type 0} {F : A → Type 0} {s : A → List ℕ} {r : Reader A} whe
 
 -- ---- wholes
 
-pub after_spelled : {A : Type 0} {F : A → Type 0} {s : A → List ℕ} {r : Reader A} → ReadsSpelled F s r → (front : List ℕ) → ReadsSpelled F (λ x. front ++ s x) (after front r)
-after_spelled {A} {F} {s} {r} law front = record {
-  spelled = λ bytes x small e.
+pub after_encoded : {A : Type 0} {F : A → Type 0} {s : A → List ℕ} {r : Reader A} → ReadsEncoded F s r → (front : List ℕ) → ReadsEncoded F (λ x. front ++ s x) (after front r)
+after_encoded {A} {F} {s} {r} law front = record {
+  encoded = λ bytes x small e.
       let a = bind_ok (rest_after front bytes) (λ rest. r rest) x e in
       let p = passed (pointwise nat_eq (take (length front) bytes) front) (drop (length front) bytes) a.0 a.1 in
       let same = (bytes_decides (take (length front) bytes) front).0 p.0 in
       let left = subst IsBytes p.1 (IsBytes-drop (length front) bytes small) in
-      let one = law.spelled a.0 x left a.2 in
+      let one = law.encoded a.0 x left a.2 in
       record {
         parts =
             sym (take-append-drop (length front) bytes) ∙ ap (λ (w : List ℕ). w ++ drop (length front) bytes) same
@@ -343,11 +343,11 @@ after_spelled {A} {F} {s} {r} law front = record {
       };
 }
 
-pub whole_spelled : {A : Type 0} {F : A → Type 0} {s : A → List ℕ} {r : Reader A} → ReadsSpelled F s r → (bytes : List ℕ) (x : A) → IsBytes bytes → whole r bytes ≡ Ok x → (bytes ≡ s x) × F x
-whole_spelled {A} {F} {s} {r} law bytes x small e =
+pub whole_encoded : {A : Type 0} {F : A → Type 0} {s : A → List ℕ} {r : Reader A} → ReadsEncoded F s r → (bytes : List ℕ) (x : A) → IsBytes bytes → whole r bytes ≡ Ok x → (bytes ≡ s x) × F x
+whole_encoded {A} {F} {s} {r} law bytes x small e =
     let a = bind_ok (r bytes) (λ y. if eqb (length y.1) 0 then Ok y.0 else Err ParseDiffs) x e in
     let p = passed (eqb (length a.0.1) 0) a.0.0 x a.2 in
-    let one = law.spelled bytes a.0 small a.1 in
+    let one = law.encoded bytes a.0 small a.1 in
     let nothing : a.0.1 ≡ [] = nil_from_length a.0.1 (eqb-true _ _ p.0) in
     subst (λ (y : A). (bytes ≡ s y) × F y) p.1
     (one.parts ∙ ap (λ (w : List ℕ). s a.0.0 ++ w) nothing ∙ append-nil (s a.0.0), one.fits)

@@ -1,4 +1,4 @@
--- The record of two well-formed workbooks can be spelled.
+-- The record of two well-formed workbooks can be encoded.
 use Rattle.std.proofs.Common.{◌≡◌, ℕ, ℤ, true, false, List, [], ◌∷◌, map, Option, Some, None, is_some, refl, ap, ◌∙◌}
 use Rattle.std.specs.Prelude.{IsTrue, IfSome, not}
 use Rattle.std.proofs.Common.{Bool}
@@ -31,7 +31,7 @@ use Rattle.sheet_history.specs.laws.BothWays.{AllFit}
 use Rattle.sheet_history.specs.laws.SoundEntries.{entries_fit}
 use Rattle.sheet_wire.specs.QueueBytes.{IsKnownDiff}
 use Rattle.sheet_wire.specs.laws.Fitting.{known_diff}
-use Rattle.open_book.specs.Spellable.{AreSpellable}
+use Rattle.open_book.specs.Encodable.{AreEncodable}
 
 -- a cell that may stand at its place is not deep
 shallow_standing : (place : Position) (entry : Option Cell) → cell_stands_at place entry ≡ true → IsTrue (is_shallow_entry entry)
@@ -60,7 +60,7 @@ module _ (w : Book) where
       let fits = (both (is_some (sheet_of w id)) (value_fits (AttrKey id axis line) (AttrValue entry)) accepted).1 in
       kept_standing entry (both (is_line (along_of axis).last line) (is_stored entry) fits).1
 
-  -- a diff whose values the workbook can take can be spelled
+  -- a diff whose values the workbook can take can be encoded
   known : (diff : Diff) (c : Change) → change_of diff ≡ Some c → accepts w c.0 c.1.1 ≡ true → accepts w c.0 c.1.0 ≡ true → IsCanonicalDiff diff → IsKnownDiff diff
   known (CellDiff id place old new) c is news olds kept =
       let same : ◌≡◌ {A = Change} (CellKey id place, (CellValue old, CellValue new)) c = cc in
@@ -82,7 +82,7 @@ module _ (w : Book) where
   known (NameDiff change trees) c is news olds kept = absurd (cc)
   known (SettingDiff change) c is news olds kept = tt
 
-  all_known : (list : List Diff) (changes : List Change) → map change_of list ≡ map Some changes → AllFit w changes → AllByRecursion IsCanonicalDiff list → AreSpellable list
+  all_known : (list : List Diff) (changes : List Change) → map change_of list ≡ map Some changes → AllFit w changes → AllByRecursion IsCanonicalDiff list → AreEncodable list
   all_known [] [] is fit kept = tt
   all_known [] (c ∷ changes) is fit kept = absurd (cc)
   all_known (diff ∷ list) [] is fit kept = absurd (cc)
@@ -91,6 +91,6 @@ module _ (w : Book) where
       let rest : map change_of list ≡ map Some changes = cc in
       (known diff c one fit.0 fit.1 kept.0, all_known list changes rest fit.2 kept.1)
 
-pub record_spellable : (earlier later : Book) (list : List Diff) → IsWellFormed earlier → IsWellFormed later → IsRecord earlier later list → IsCanonicalList list → AreSpellable list
-record_spellable earlier later list before after is kept =
+pub record_encodable : (earlier later : Book) (list : List Diff) → IsWellFormed earlier → IsWellFormed later → IsRecord earlier later list → IsCanonicalList list → AreEncodable list
+record_encodable earlier later list before after is kept =
     all_known earlier list is.changes is.made_of (entries_fit earlier later list before after is) (recursion_from_All IsCanonicalDiff list kept)

@@ -1,7 +1,7 @@
-pub mod Reading
+pub mod CellReading
 pub mod PartsAgain
 pub mod PartsEncoded
 pub mod Refusals
-pub mod Formats
+pub mod CellFormats
 pub mod MergeLaws
 pub mod Fitting

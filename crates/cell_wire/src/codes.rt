@@ -7,7 +7,7 @@ ghost use Rattle.base_styles.specs.Colors.{theme_color_of_code};
 ghost use Rattle.base_wire.specs.laws.Reading.{decoded};
 ghost use Rattle.cell_wire.specs.CellBytes.{kind_code};
 ghost use Rattle.cell_wire.specs.StyleBytes.{border_code, horizontal_code, vertical_code};
-ghost use Rattle.cell_wire.specs.laws.Reading.{border_styles, horizontals, verticals};
+ghost use Rattle.cell_wire.specs.laws.CellReading.{border_styles, horizontals, verticals};
 
 use base_styles::{BorderStyle, HorizontalAlignment, ThemeColor, VerticalAlignment};
 use base_values::EditError;

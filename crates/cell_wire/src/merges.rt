@@ -2,7 +2,7 @@
 
 ghost use Rattle.std.specs.Prelude.{◌≡◌, ◌++◌, OnOk};
 ghost use Rattle.base_values.specs.Answers.{Answers, map_ok};
-ghost use Rattle.cell_wire.specs.laws.Reading.{link_at, merge_at, merges_at};
+ghost use Rattle.cell_wire.specs.laws.CellReading.{link_at, merge_at, merges_at};
 ghost use Rattle.cell_wire.specs.MergeBytes.{encode_merge, encode_merges, FitsMerge, FitsMerges};
 
 use crate::read::read;
@@ -12,7 +12,7 @@ use base_wire::{Part, put_items};
 use sheet_grid::Link;
 use std::alloc::{AllocError, Global};
 
-#[tactic(auto, unfolding(crate::specs::laws::Reading::link_at))]
+#[tactic(auto, unfolding(crate::specs::laws::CellReading::link_at))]
 fn link_at(alloc: Global, bytes: &[u8]) -> Result<(Link, &[u8]), EditError>
     ensures { Answers (map_ok (λ x. (x.0, x.1.now)) result) (link_at bytes.now) }
 {
@@ -20,7 +20,7 @@ fn link_at(alloc: Global, bytes: &[u8]) -> Result<(Link, &[u8]), EditError>
     Ok((Link { target }, rest))
 }
 
-#[tactic(auto, unfolding(crate::specs::laws::Reading::merge_at))]
+#[tactic(auto, unfolding(crate::specs::laws::CellReading::merge_at))]
 fn merge_at(alloc: Global, bytes: &[u8]) -> Result<(MergedCell, &[u8]), EditError>
     ensures { Answers (map_ok (λ x. (x.0, x.1.now)) result) (merge_at bytes.now) }
 {
@@ -37,7 +37,7 @@ fn merge_at(alloc: Global, bytes: &[u8]) -> Result<(MergedCell, &[u8]), EditErro
     Ok((merge, rest))
 }
 
-#[tactic(auto, unfolding(crate::specs::laws::Reading::merges_at))]
+#[tactic(auto, unfolding(crate::specs::laws::CellReading::merges_at))]
 fn merges_at(alloc: Global, bytes: &[u8]) -> Result<(MergeList, &[u8]), EditError>
     ensures { Answers (map_ok (λ x. (x.0, x.1.now)) result) (merges_at bytes.now) }
 {
@@ -78,7 +78,7 @@ impl Part for LinkPart {
     ghost use Rattle.std.proofs.Common.{arith};
     ghost use Rattle.base_wire.specs.Encoding.{Any};
     ghost use Rattle.cell_wire.specs.LinkBytes.{encode_link, FitsLink};
-    ghost use Rattle.cell_wire.specs.laws.Reading.{link_at};
+    ghost use Rattle.cell_wire.specs.laws.CellReading.{link_at};
     ghost use Rattle.cell_wire.specs.laws.MergeLaws.{link_format};
 
     type Value = Link;
@@ -113,7 +113,7 @@ impl Part for LinkPart {
 impl Part for MergedCellPart {
     ghost use Rattle.base_wire.specs.Encoding.{Any};
     ghost use Rattle.cell_wire.specs.MergeBytes.{encode_merge, FitsMerge};
-    ghost use Rattle.cell_wire.specs.laws.Reading.{merge_at};
+    ghost use Rattle.cell_wire.specs.laws.CellReading.{merge_at};
     ghost use Rattle.cell_wire.specs.laws.MergeLaws.{merge_format, merge_some};
 
     type Value = MergedCell;
@@ -149,7 +149,7 @@ impl Part for MergeListPart {
     ghost use Rattle.std.proofs.Common.{arith};
     ghost use Rattle.base_wire.specs.Encoding.{Any};
     ghost use Rattle.cell_wire.specs.MergeBytes.{encode_merges, FitsMerges};
-    ghost use Rattle.cell_wire.specs.laws.Reading.{merges_at};
+    ghost use Rattle.cell_wire.specs.laws.CellReading.{merges_at};
     ghost use Rattle.cell_wire.specs.laws.MergeLaws.{merges_format};
 
     type Value = MergeList;

@@ -19,8 +19,8 @@ pub struct ColorPart;
 impl Part for ColorPart {
     ghost use Rattle.base_wire.specs.Encoding.{Any};
     ghost use Rattle.cell_wire.specs.StyleBytes.{encode_color, FitsColor};
-    ghost use Rattle.cell_wire.specs.laws.Reading.{color_at};
-    ghost use Rattle.cell_wire.specs.laws.Formats.{color_format, color_some};
+    ghost use Rattle.cell_wire.specs.laws.CellReading.{color_at};
+    ghost use Rattle.cell_wire.specs.laws.CellFormats.{color_format, color_some};
 
     type Value = Color;
 
@@ -58,8 +58,8 @@ impl Part for BorderItemPart {
     ghost use Rattle.std.proofs.Common.{arith};
     ghost use Rattle.base_wire.specs.Encoding.{Any};
     ghost use Rattle.cell_wire.specs.StyleBytes.{encode_border_item, FitsBorderItem};
-    ghost use Rattle.cell_wire.specs.laws.Reading.{border_item_at};
-    ghost use Rattle.cell_wire.specs.laws.Formats.{border_item_format};
+    ghost use Rattle.cell_wire.specs.laws.CellReading.{border_item_at};
+    ghost use Rattle.cell_wire.specs.laws.CellFormats.{border_item_format};
 
     type Value = BorderItem;
 
@@ -97,8 +97,8 @@ impl Part for AlignmentPart {
     ghost use Rattle.std.proofs.Common.{arith};
     ghost use Rattle.base_wire.specs.Encoding.{Any};
     ghost use Rattle.cell_wire.specs.StyleBytes.{encode_alignment};
-    ghost use Rattle.cell_wire.specs.laws.Reading.{alignment_at};
-    ghost use Rattle.cell_wire.specs.laws.Formats.{alignment_format};
+    ghost use Rattle.cell_wire.specs.laws.CellReading.{alignment_at};
+    ghost use Rattle.cell_wire.specs.laws.CellFormats.{alignment_format};
 
     type Value = Alignment;
 
@@ -135,8 +135,8 @@ pub struct PositionPart;
 impl Part for PositionPart {
     ghost use Rattle.base_wire.specs.Encoding.{Any};
     ghost use Rattle.cell_wire.specs.CellBytes.{encode_position, FitsPosition};
-    ghost use Rattle.cell_wire.specs.laws.Reading.{position_at};
-    ghost use Rattle.cell_wire.specs.laws.Formats.{position_format, position_some};
+    ghost use Rattle.cell_wire.specs.laws.CellReading.{position_at};
+    ghost use Rattle.cell_wire.specs.laws.CellFormats.{position_format, position_some};
 
     type Value = Position;
 
@@ -174,8 +174,8 @@ impl Part for StylePart {
     ghost use Rattle.std.proofs.Common.{arith};
     ghost use Rattle.base_wire.specs.Encoding.{Any};
     ghost use Rattle.cell_wire.specs.StyleBytes.{encode_style, FitsStyle};
-    ghost use Rattle.cell_wire.specs.laws.Reading.{style_at};
-    ghost use Rattle.cell_wire.specs.laws.Formats.{style_format};
+    ghost use Rattle.cell_wire.specs.laws.CellReading.{style_at};
+    ghost use Rattle.cell_wire.specs.laws.CellFormats.{style_format};
 
     type Value = Shared<Style>;
 
@@ -211,8 +211,8 @@ pub struct CellPart;
 
 impl Part for CellPart {
     ghost use Rattle.cell_wire.specs.CellBytes.{encode_cell, FitsCell, IsKnownCell};
-    ghost use Rattle.cell_wire.specs.laws.Reading.{cell_at};
-    ghost use Rattle.cell_wire.specs.laws.Formats.{cell_format, cell_some};
+    ghost use Rattle.cell_wire.specs.laws.CellReading.{cell_at};
+    ghost use Rattle.cell_wire.specs.laws.CellFormats.{cell_format, cell_some};
 
     type Value = Shared<Cell>;
 

@@ -1,7 +1,7 @@
 //! Positions and cells from the front of bytes.
 
 ghost use Rattle.base_values.specs.Answers.{Answers, map_ok};
-ghost use Rattle.cell_wire.specs.laws.Reading.{cell_at, content_at, formula_at, position_at, sides_at};
+ghost use Rattle.cell_wire.specs.laws.CellReading.{cell_at, content_at, formula_at, position_at, sides_at};
 
 use crate::read::read;
 use crate::reading_styles::style_at;
@@ -16,7 +16,7 @@ use formula_wire::NodePart;
 use sheet_grid::Cell;
 use std::alloc::Global;
 
-#[tactic(auto, unfolding(crate::specs::laws::Reading::position_at))]
+#[tactic(auto, unfolding(crate::specs::laws::CellReading::position_at))]
 pub(crate) fn position_at(alloc: Global, bytes: &[u8]) -> Result<(Position, &[u8]), EditError>
     ensures { Answers (map_ok (λ x. (x.0, x.1.now)) result) (position_at bytes.now) }
 {
@@ -51,7 +51,7 @@ fn formula_at(alloc: Global, kind: u8, bytes: &[u8]) -> Result<(Content, &[u8]),
     }
 }
 
-#[tactic(auto, unfolding(crate::specs::laws::Reading::content_at))]
+#[tactic(auto, unfolding(crate::specs::laws::CellReading::content_at))]
 fn content_at(alloc: Global, bytes: &[u8]) -> Result<(Content, &[u8]), EditError>
     ensures { Answers (map_ok (λ x. (x.0, x.1.now)) result) (content_at bytes.now) }
 {
@@ -79,7 +79,7 @@ fn content_at(alloc: Global, bytes: &[u8]) -> Result<(Content, &[u8]), EditError
     }
 }
 
-#[tactic(auto, unfolding(crate::specs::laws::Reading::cell_at))]
+#[tactic(auto, unfolding(crate::specs::laws::CellReading::cell_at))]
 pub(crate) fn cell_at<'a>(
     alloc: Global,
     plain: &Shared<Style>,

@@ -6,7 +6,7 @@ ghost use Rattle.base_values.specs.declared.EditError.TheVariants.{NoMemory};
 ghost use Rattle.base_styles.specs.Colors.{theme_color_of_code};
 ghost use Rattle.base_wire.specs.laws.Reading.{code_at, coded_at};
 ghost use Rattle.cell_wire.specs.StyleBytes.{border_code, horizontal_code, vertical_code};
-ghost use Rattle.cell_wire.specs.laws.Reading.{alignment_at, border_at, border_item_at, border_styles, color_at, font_at, horizontals, style_at, verticals};
+ghost use Rattle.cell_wire.specs.laws.CellReading.{alignment_at, border_at, border_item_at, border_styles, color_at, font_at, horizontals, style_at, verticals};
 
 use crate::codes::{border_style_of, horizontal_of, theme_of, vertical_of};
 use crate::parts::{AlignmentPart, BorderItemPart};
@@ -51,7 +51,7 @@ fn vertical_at(alloc: Global, bytes: &[u8]) -> Result<(VerticalAlignment, &[u8])
     Ok((vertical, rest))
 }
 
-#[tactic(auto, unfolding(crate::specs::laws::Reading::color_at))]
+#[tactic(auto, unfolding(crate::specs::laws::CellReading::color_at))]
 pub(crate) fn color_at(alloc: Global, bytes: &[u8]) -> Result<(Color, &[u8]), EditError>
     ensures { Answers (map_ok (λ x. (x.0, x.1.now)) result) (color_at bytes.now) }
 {
@@ -72,7 +72,7 @@ pub(crate) fn color_at(alloc: Global, bytes: &[u8]) -> Result<(Color, &[u8]), Ed
     }
 }
 
-#[tactic(auto, unfolding(crate::specs::laws::Reading::font_at))]
+#[tactic(auto, unfolding(crate::specs::laws::CellReading::font_at))]
 fn font_at(alloc: Global, bytes: &[u8]) -> Result<(Font, &[u8]), EditError>
     ensures { Answers (map_ok (λ x. (x.0, x.1.now)) result) (font_at bytes.now) }
 {
@@ -93,7 +93,7 @@ fn font_at(alloc: Global, bytes: &[u8]) -> Result<(Font, &[u8]), EditError>
     Ok((font, rest))
 }
 
-#[tactic(auto, unfolding(crate::specs::laws::Reading::border_item_at))]
+#[tactic(auto, unfolding(crate::specs::laws::CellReading::border_item_at))]
 pub(crate) fn border_item_at(alloc: Global, bytes: &[u8]) -> Result<(BorderItem, &[u8]), EditError>
     ensures { Answers (map_ok (λ x. (x.0, x.1.now)) result) (border_item_at bytes.now) }
 {
@@ -102,7 +102,7 @@ pub(crate) fn border_item_at(alloc: Global, bytes: &[u8]) -> Result<(BorderItem,
     Ok((BorderItem { style, color }, rest))
 }
 
-#[tactic(auto, unfolding(crate::specs::laws::Reading::border_at, crate::specs::laws::Reading::side_at))]
+#[tactic(auto, unfolding(crate::specs::laws::CellReading::border_at, crate::specs::laws::CellReading::side_at))]
 fn border_at(alloc: Global, bytes: &[u8]) -> Result<(Border, &[u8]), EditError>
     ensures { Answers (map_ok (λ x. (x.0, x.1.now)) result) (border_at bytes.now) }
 {
@@ -119,7 +119,7 @@ fn border_at(alloc: Global, bytes: &[u8]) -> Result<(Border, &[u8]), EditError>
     Ok((border, rest))
 }
 
-#[tactic(auto, unfolding(crate::specs::laws::Reading::alignment_at))]
+#[tactic(auto, unfolding(crate::specs::laws::CellReading::alignment_at))]
 pub(crate) fn alignment_at(alloc: Global, bytes: &[u8]) -> Result<(Alignment, &[u8]), EditError>
     ensures { Answers (map_ok (λ x. (x.0, x.1.now)) result) (alignment_at bytes.now) }
 {
@@ -134,7 +134,7 @@ pub(crate) fn alignment_at(alloc: Global, bytes: &[u8]) -> Result<(Alignment, &[
     Ok((alignment, rest))
 }
 
-#[tactic(auto, unfolding(crate::specs::laws::Reading::style_at, crate::specs::laws::Reading::alignment_option_at))]
+#[tactic(auto, unfolding(crate::specs::laws::CellReading::style_at, crate::specs::laws::CellReading::alignment_option_at))]
 fn one_style_at(alloc: Global, bytes: &[u8]) -> Result<(Style, &[u8]), EditError>
     ensures { Answers (map_ok (λ x. (x.0, x.1.now)) result) (style_at bytes.now) }
 {

@@ -53,7 +53,7 @@ struct AxisLinePart<A: Axis> {
 impl Part for PlacePart {
     ghost use Rattle.base_values.specs.Places.{IsPlace};
     ghost use Rattle.cell_wire.specs.CellBytes.{encode_position};
-    ghost use Rattle.cell_wire.specs.laws.Formats.{position_some};
+    ghost use Rattle.cell_wire.specs.laws.CellFormats.{position_some};
     ghost use Rattle.grid_wire.specs.laws.Reading.{place_at};
     ghost use Rattle.grid_wire.specs.laws.KeyLaws.{place_format};
 

@@ -3,8 +3,8 @@
 ghost use Rattle.std.specs.Prelude.{IfOk};
 ghost use Rattle.base_values.specs.Answers.{Answers, map_ok};
 ghost use Rattle.sheet_grid.specs.CanonicalCell.{CanonicalCells};
-ghost use Rattle.cell_wire.specs.laws.Reading.{merges_at};
-ghost use Rattle.rule_wire.specs.laws.Reading.{formattings_at};
+ghost use Rattle.cell_wire.specs.laws.CellReading.{merges_at};
+ghost use Rattle.rule_wire.specs.laws.RuleReading.{formattings_at};
 ghost use Rattle.base_wire.specs.laws.Reading.{◌⊗◌};
 ghost use Rattle.grid_wire.specs.laws.Reading.{cells_at, columns_at, fields_at, links_at, rows_at, sheet_at};
 

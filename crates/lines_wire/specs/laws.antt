@@ -1,4 +1,4 @@
-pub mod Reading
+pub mod LinesReading
 pub mod EditLaws
 pub mod KeptFits
 pub mod KeptLaws

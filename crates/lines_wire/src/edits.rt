@@ -4,7 +4,7 @@ ghost use Rattle.std.specs.Prelude.{◌≡◌, ◌++◌, OnOk, FitsSigned};
 ghost use Rattle.std.specs.Int.{w32};
 ghost use Rattle.base_values.specs.Answers.{Answers, map_ok};
 ghost use Rattle.lines_wire.specs.EditBytes.{encode_block, encode_edit, encode_number, FitsBlock, FitsEdit};
-ghost use Rattle.lines_wire.specs.laws.Reading.{block_at, edit_at};
+ghost use Rattle.lines_wire.specs.laws.LinesReading.{block_at, edit_at};
 
 use crate::steps::read;
 use base_values::EditError;
@@ -65,7 +65,7 @@ fn block_at(alloc: Global, bytes: &[u8]) -> Result<((i32, i32), &[u8]), EditErro
     Ok(((first, count), rest))
 }
 
-#[tactic(auto, unfolding(crate::specs::laws::Reading::edit_at))]
+#[tactic(auto, unfolding(crate::specs::laws::LinesReading::edit_at))]
 fn edit_at(alloc: Global, bytes: &[u8]) -> Result<(EditKind, &[u8]), EditError>
     ensures { Answers (map_ok (λ x. (x.0, x.1.now)) result) (edit_at bytes.now) }
 {
@@ -99,7 +99,7 @@ pub struct EditPart;
 impl Part for EditPart {
     ghost use Rattle.base_wire.specs.Encoding.{Any};
     ghost use Rattle.lines_wire.specs.EditBytes.{encode_edit, FitsEdit};
-    ghost use Rattle.lines_wire.specs.laws.Reading.{edit_at};
+    ghost use Rattle.lines_wire.specs.laws.LinesReading.{edit_at};
     ghost use Rattle.lines_wire.specs.laws.EditLaws.{edit_format, edit_some};
 
     type Value = EditKind;

@@ -5,7 +5,7 @@ ghost use Rattle.base_values.specs.Answers.{Answers, map_ok};
 ghost use Rattle.base_wire.specs.Encoding.{encode_option};
 ghost use Rattle.cell_wire.specs.MergeBytes.{encode_merges, FitsMerges};
 ghost use Rattle.lines_wire.specs.KeptBytes.{encode_kept, FitsKept, IsKnownKept};
-ghost use Rattle.lines_wire.specs.laws.Reading.{kept_at};
+ghost use Rattle.lines_wire.specs.laws.LinesReading.{kept_at};
 
 use crate::steps::read;
 use crate::values::SheetPlacePart;
@@ -59,7 +59,7 @@ fn put_kept(out: &mut Vec<u8>, kept: &KeptLines) -> Result<(), AllocError>
     Ok(())
 }
 
-#[tactic(auto, unfolding(crate::specs::laws::Reading::kept_at, crate::specs::laws::Reading::cells_at, crate::specs::laws::Reading::links_at, crate::specs::laws::Reading::lines_at, crate::specs::laws::Reading::formulas_at, crate::specs::laws::Reading::kept_merges_at, crate::specs::laws::Reading::kept_rules_at))]
+#[tactic(auto, unfolding(crate::specs::laws::LinesReading::kept_at, crate::specs::laws::LinesReading::cells_at, crate::specs::laws::LinesReading::links_at, crate::specs::laws::LinesReading::lines_at, crate::specs::laws::LinesReading::formulas_at, crate::specs::laws::LinesReading::kept_merges_at, crate::specs::laws::LinesReading::kept_rules_at))]
 fn kept_at<'a>(
     alloc: Global,
     plain: &Shared<Style>,
@@ -93,7 +93,7 @@ pub struct KeptLinesPart;
 
 impl Part for KeptLinesPart {
     ghost use Rattle.lines_wire.specs.KeptBytes.{encode_kept, FitsKept, IsKnownKept};
-    ghost use Rattle.lines_wire.specs.laws.Reading.{kept_at};
+    ghost use Rattle.lines_wire.specs.laws.LinesReading.{kept_at};
     ghost use Rattle.lines_wire.specs.laws.KeptLaws.{kept_format, kept_some};
 
     type Value = KeptLines;

@@ -1,7 +1,7 @@
 //! Places of a workbook, and indexes of lists of its sheets, as parts of formats.
 
 ghost use Rattle.base_values.specs.Answers.{Answers, map_ok};
-ghost use Rattle.lines_wire.specs.laws.Reading.{sheet_index_at, sheet_place_at};
+ghost use Rattle.lines_wire.specs.laws.LinesReading.{sheet_index_at, sheet_place_at};
 
 use crate::steps::read;
 use base_maps::{SheetIndex, SheetPlace};
@@ -10,7 +10,7 @@ use base_wire::Part;
 use cell_wire::PositionPart;
 use std::alloc::{AllocError, Global};
 
-#[tactic(auto, unfolding(crate::specs::laws::Reading::sheet_place_at))]
+#[tactic(auto, unfolding(crate::specs::laws::LinesReading::sheet_place_at))]
 fn sheet_place_at(alloc: Global, bytes: &[u8]) -> Result<(SheetPlace, &[u8]), EditError>
     ensures { Answers (map_ok (λ x. (x.0, x.1.now)) result) (sheet_place_at bytes.now) }
 {
@@ -25,7 +25,7 @@ pub struct SheetPlacePart;
 impl Part for SheetPlacePart {
     ghost use Rattle.base_wire.specs.Encoding.{Any};
     ghost use Rattle.lines_wire.specs.PartBytes.{encode_sheet_place, FitsSheetPlace};
-    ghost use Rattle.lines_wire.specs.laws.Reading.{sheet_place_at};
+    ghost use Rattle.lines_wire.specs.laws.LinesReading.{sheet_place_at};
     ghost use Rattle.lines_wire.specs.laws.PartLaws.{sheet_place_format, sheet_place_some};
 
     type Value = SheetPlace;
@@ -59,7 +59,7 @@ impl Part for SheetPlacePart {
     ghost some = { sheet_place_some };
 }
 
-#[tactic(auto, unfolding(crate::specs::laws::Reading::sheet_index_at))]
+#[tactic(auto, unfolding(crate::specs::laws::LinesReading::sheet_index_at))]
 fn sheet_index_at(alloc: Global, bytes: &[u8]) -> Result<(SheetIndex, &[u8]), EditError>
     ensures { Answers (map_ok (λ x. (x.0, x.1.now)) result) (sheet_index_at bytes.now) }
 {
@@ -74,7 +74,7 @@ pub struct SheetIndexPart;
 impl Part for SheetIndexPart {
     ghost use Rattle.base_wire.specs.Encoding.{Any};
     ghost use Rattle.lines_wire.specs.PartBytes.{encode_sheet_index, FitsSheetIndex};
-    ghost use Rattle.lines_wire.specs.laws.Reading.{sheet_index_at};
+    ghost use Rattle.lines_wire.specs.laws.LinesReading.{sheet_index_at};
     ghost use Rattle.lines_wire.specs.laws.PartLaws.{sheet_index_format, sheet_index_some};
 
     type Value = SheetIndex;

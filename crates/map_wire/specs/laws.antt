@@ -1,4 +1,4 @@
-pub mod Reading
+pub mod MapReading
 pub mod Ascending
 pub mod KeyOrder
 pub mod MapFits

@@ -20,7 +20,7 @@ impl<X: PlainKey<P::Value>, K: Part<Value = X::Key, Context = ()>, P: Part> Part
     for MapPart<X, K, P> {
     ghost use Rattle.std.proofs.Common.{arith};
     ghost use Rattle.map_wire.specs.MapBytes.{encode_map, FitsMap, IsKnownMap};
-    ghost use Rattle.map_wire.specs.laws.Reading.{map_of_at};
+    ghost use Rattle.map_wire.specs.laws.MapReading.{map_of_at};
     ghost use Rattle.map_wire.specs.laws.KeyOrder.{order_total, order_exact};
     ghost use Rattle.map_wire.specs.laws.MapLaws.{map_format};
 

@@ -8,7 +8,7 @@ ghost use Rattle.base_values.specs.Answers.{Answers, map_ok};
 ghost use Rattle.base_wire.specs.Reads.{Reads};
 ghost use Rattle.base_wire.specs.Encoding.{Both};
 ghost use Rattle.map_wire.specs.MapBytes.{FitsMap, Within, encode_map};
-ghost use Rattle.map_wire.specs.laws.Reading.{entries_at, map_of_at};
+ghost use Rattle.map_wire.specs.laws.MapReading.{entries_at, map_of_at};
 
 use crate::entries::EntryPart;
 use base_values::{EditError, Items, KeyMap, MapKey};

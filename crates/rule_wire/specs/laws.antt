@@ -1,4 +1,4 @@
-pub mod Reading
+pub mod RuleReading
 pub mod ThresholdLaws
 pub mod RuleLaws
 pub mod FormattingLaws

@@ -1,7 +1,7 @@
 //! Parts of rules as parts of formats.
 
 ghost use Rattle.base_values.specs.Answers.{Answers, map_ok};
-ghost use Rattle.cell_wire.specs.laws.Reading.{merge_at};
+ghost use Rattle.cell_wire.specs.laws.CellReading.{merge_at};
 
 use crate::steps::read;
 use base_axis::MergedCell;
@@ -9,7 +9,7 @@ use base_values::EditError;
 use base_wire::Part;
 use std::alloc::{AllocError, Global};
 
-#[tactic(auto, unfolding(cell_wire::specs::laws::Reading::merge_at))]
+#[tactic(auto, unfolding(cell_wire::specs::laws::CellReading::merge_at))]
 fn area_at(alloc: Global, bytes: &[u8]) -> Result<(MergedCell, &[u8]), EditError>
     ensures { Answers (map_ok (λ x. (x.0, x.1.now)) result) (merge_at bytes.now) }
 {
@@ -32,7 +32,7 @@ pub(crate) struct AreaPart;
 impl Part for AreaPart {
     ghost use Rattle.base_wire.specs.Encoding.{Any};
     ghost use Rattle.cell_wire.specs.MergeBytes.{encode_merge, FitsMerge};
-    ghost use Rattle.cell_wire.specs.laws.Reading.{merge_at};
+    ghost use Rattle.cell_wire.specs.laws.CellReading.{merge_at};
     ghost use Rattle.cell_wire.specs.laws.MergeLaws.{merge_format, merge_some};
 
     type Value = MergedCell;

@@ -5,7 +5,7 @@ ghost use Rattle.base_values.specs.Answers.{Answers, map_ok, ok_or};
 ghost use Rattle.base_values.specs.declared.EditError.TheVariants.{ParseDiffs};
 ghost use Rattle.base_wire.specs.laws.Reading.{decoded};
 ghost use Rattle.rule_wire.specs.RuleBytes.{operator_code};
-ghost use Rattle.rule_wire.specs.laws.Reading.{operator_at, operators};
+ghost use Rattle.rule_wire.specs.laws.RuleReading.{operator_at, operators};
 
 use crate::steps::read;
 use base_values::EditError;

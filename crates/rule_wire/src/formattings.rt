@@ -3,7 +3,7 @@
 ghost use Rattle.std.specs.Prelude.{◌≡◌, ◌++◌, OnOk};
 ghost use Rattle.base_values.specs.Answers.{Answers, map_ok};
 ghost use Rattle.rule_wire.specs.FormattingBytes.{encode_areas, FitsAreas};
-ghost use Rattle.rule_wire.specs.laws.Reading.{formatting_at};
+ghost use Rattle.rule_wire.specs.laws.RuleReading.{formatting_at};
 
 use crate::areas::AreaPart;
 use crate::rules::RulePart;
@@ -16,7 +16,7 @@ use base_wire::{Part, put_items};
 use format_rules::{ConditionalFormatting, RuleList};
 use std::alloc::{AllocError, Global};
 
-#[tactic(auto, unfolding(crate::specs::laws::Reading::formatting_at, crate::specs::laws::Reading::areas_at))]
+#[tactic(auto, unfolding(crate::specs::laws::RuleReading::formatting_at, crate::specs::laws::RuleReading::areas_at))]
 fn formatting_at<'a>(
     alloc: Global,
     plain: &Shared<Style>,
@@ -35,7 +35,7 @@ fn formatting_at<'a>(
     Ok((formatting, rest))
 }
 
-#[tactic(auto, using(crate::proofs::Known::any_items))]
+#[tactic(auto, using(crate::proofs::KnownRules::any_items))]
 fn put_areas(out: &mut Vec<u8>, areas: &[MergedCell]) -> Result<(), AllocError>
     ensures encoded { OnOk result (out.new.items ≡ out.old.items ++ encode_areas areas.now) }
     ensures fits { OnOk result (FitsAreas areas.now) }
@@ -49,7 +49,7 @@ pub struct FormattingPart;
 
 impl Part for FormattingPart {
     ghost use Rattle.rule_wire.specs.FormattingBytes.{encode_formatting, FitsFormatting, IsKnownFormatting};
-    ghost use Rattle.rule_wire.specs.laws.Reading.{formatting_at};
+    ghost use Rattle.rule_wire.specs.laws.RuleReading.{formatting_at};
     ghost use Rattle.rule_wire.specs.laws.FormattingLaws.{formatting_format, formatting_some};
 
     type Value = ConditionalFormatting;
@@ -89,7 +89,7 @@ pub struct RuleListPart;
 impl Part for RuleListPart {
     ghost use Rattle.std.proofs.Common.{arith};
     ghost use Rattle.rule_wire.specs.FormattingBytes.{encode_formattings, FitsFormattings, AreKnownFormattings};
-    ghost use Rattle.rule_wire.specs.laws.Reading.{formattings_at};
+    ghost use Rattle.rule_wire.specs.laws.RuleReading.{formattings_at};
     ghost use Rattle.rule_wire.specs.laws.FormattingLaws.{formattings_format};
 
     type Value = RuleList;

@@ -1,7 +1,7 @@
 //! Rules from the front of bytes.
 
 ghost use Rattle.base_values.specs.Answers.{Answers, map_ok};
-ghost use Rattle.rule_wire.specs.laws.Reading.{cell_is_at, data_bar_at, formula_at, icon_rating_at, icon_set_at, rule_at};
+ghost use Rattle.rule_wire.specs.laws.RuleReading.{cell_is_at, data_bar_at, formula_at, icon_rating_at, icon_set_at, rule_at};
 
 use crate::codes::operator_at;
 use crate::steps::read;
@@ -32,7 +32,7 @@ fn formula_at<'a>(
     Ok((rule, rest))
 }
 
-#[tactic(auto, unfolding(crate::specs::laws::Reading::second_at))]
+#[tactic(auto, unfolding(crate::specs::laws::RuleReading::second_at))]
 fn cell_is_at<'a>(
     alloc: Global,
     plain: &Shared<Style>,
@@ -55,7 +55,7 @@ fn cell_is_at<'a>(
     Ok((rule, rest))
 }
 
-#[tactic(auto, unfolding(crate::specs::laws::Reading::bound_at))]
+#[tactic(auto, unfolding(crate::specs::laws::RuleReading::bound_at))]
 fn data_bar_at(alloc: Global, bytes: &[u8]) -> Result<(CfRule, &[u8]), EditError>
     ensures { Answers (map_ok (λ x. (x.0, x.1.now)) result) (data_bar_at bytes.now) }
 {
@@ -76,7 +76,7 @@ fn data_bar_at(alloc: Global, bytes: &[u8]) -> Result<(CfRule, &[u8]), EditError
     Ok((rule, rest))
 }
 
-#[tactic(auto, unfolding(crate::specs::laws::Reading::icons_at))]
+#[tactic(auto, unfolding(crate::specs::laws::RuleReading::icons_at))]
 fn icon_set_at(alloc: Global, bytes: &[u8]) -> Result<(CfRule, &[u8]), EditError>
     ensures { Answers (map_ok (λ x. (x.0, x.1.now)) result) (icon_set_at bytes.now) }
 {
@@ -91,7 +91,7 @@ fn icon_set_at(alloc: Global, bytes: &[u8]) -> Result<(CfRule, &[u8]), EditError
     Ok((rule, rest))
 }
 
-#[tactic(auto, unfolding(crate::specs::laws::Reading::icons_at))]
+#[tactic(auto, unfolding(crate::specs::laws::RuleReading::icons_at))]
 fn icon_rating_at(alloc: Global, bytes: &[u8]) -> Result<(CfRule, &[u8]), EditError>
     ensures { Answers (map_ok (λ x. (x.0, x.1.now)) result) (icon_rating_at bytes.now) }
 {
@@ -108,7 +108,7 @@ fn icon_rating_at(alloc: Global, bytes: &[u8]) -> Result<(CfRule, &[u8]), EditEr
     Ok((rule, rest))
 }
 
-#[tactic(auto, unfolding(crate::specs::laws::Reading::rule_at, crate::specs::laws::Reading::colors_at))]
+#[tactic(auto, unfolding(crate::specs::laws::RuleReading::rule_at, crate::specs::laws::RuleReading::colors_at))]
 pub(crate) fn rule_at<'a>(
     alloc: Global,
     plain: &Shared<Style>,

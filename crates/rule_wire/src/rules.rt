@@ -13,7 +13,7 @@ pub struct RulePart;
 
 impl Part for RulePart {
     ghost use Rattle.rule_wire.specs.RuleBytes.{encode_rule, FitsRule, IsKnownRule};
-    ghost use Rattle.rule_wire.specs.laws.Reading.{rule_at};
+    ghost use Rattle.rule_wire.specs.laws.RuleReading.{rule_at};
     ghost use Rattle.rule_wire.specs.laws.RuleLaws.{rule_format, rule_some};
 
     type Value = CfRule;

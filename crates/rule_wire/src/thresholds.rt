@@ -3,7 +3,7 @@
 ghost use Rattle.std.specs.Prelude.{◌≡◌, ◌++◌, OnOk};
 ghost use Rattle.base_values.specs.Answers.{Answers, map_ok};
 ghost use Rattle.rule_wire.specs.ThresholdBytes.{encode_cfvo, FitsCfvo, IsKnownCfvo};
-ghost use Rattle.rule_wire.specs.laws.Reading.{cfvo_at, color_threshold_at, icon_threshold_at};
+ghost use Rattle.rule_wire.specs.laws.RuleReading.{cfvo_at, color_threshold_at, icon_threshold_at};
 
 use crate::steps::read;
 use base_decimal::Decimal;
@@ -42,7 +42,7 @@ fn put_cfvo(out: &mut Vec<u8>, cfvo: &Cfvo) -> Result<(), AllocError>
     Ok(())
 }
 
-#[tactic(auto, unfolding(crate::specs::laws::Reading::cfvo_at))]
+#[tactic(auto, unfolding(crate::specs::laws::RuleReading::cfvo_at))]
 fn cfvo_at(alloc: Global, bytes: &[u8]) -> Result<(Cfvo, &[u8]), EditError>
     ensures { Answers (map_ok (λ x. (x.0, x.1.now)) result) (cfvo_at bytes.now) }
 {
@@ -70,7 +70,7 @@ fn cfvo_at(alloc: Global, bytes: &[u8]) -> Result<(Cfvo, &[u8]), EditError>
     }
 }
 
-#[tactic(auto, unfolding(crate::specs::laws::Reading::color_threshold_at))]
+#[tactic(auto, unfolding(crate::specs::laws::RuleReading::color_threshold_at))]
 fn color_threshold_at(alloc: Global, bytes: &[u8]) -> Result<(ColorThreshold, &[u8]), EditError>
     ensures { Answers (map_ok (λ x. (x.0, x.1.now)) result) (color_threshold_at bytes.now) }
 {
@@ -79,7 +79,7 @@ fn color_threshold_at(alloc: Global, bytes: &[u8]) -> Result<(ColorThreshold, &[
     Ok((ColorThreshold { cfvo, color }, rest))
 }
 
-#[tactic(auto, unfolding(crate::specs::laws::Reading::icon_threshold_at))]
+#[tactic(auto, unfolding(crate::specs::laws::RuleReading::icon_threshold_at))]
 fn icon_threshold_at(alloc: Global, bytes: &[u8]) -> Result<(IconThreshold, &[u8]), EditError>
     ensures { Answers (map_ok (λ x. (x.0, x.1.now)) result) (icon_threshold_at bytes.now) }
 {
@@ -93,7 +93,7 @@ pub(crate) struct CfvoPart;
 
 impl Part for CfvoPart {
     ghost use Rattle.rule_wire.specs.ThresholdBytes.{encode_cfvo, FitsCfvo, IsKnownCfvo};
-    ghost use Rattle.rule_wire.specs.laws.Reading.{cfvo_at};
+    ghost use Rattle.rule_wire.specs.laws.RuleReading.{cfvo_at};
     ghost use Rattle.rule_wire.specs.laws.ThresholdLaws.{cfvo_format, cfvo_some};
 
     type Value = Cfvo;
@@ -130,7 +130,7 @@ pub(crate) struct ColorThresholdPart;
 
 impl Part for ColorThresholdPart {
     ghost use Rattle.rule_wire.specs.ThresholdBytes.{encode_color_threshold, FitsColorThreshold, IsKnownColorThreshold};
-    ghost use Rattle.rule_wire.specs.laws.Reading.{color_threshold_at};
+    ghost use Rattle.rule_wire.specs.laws.RuleReading.{color_threshold_at};
     ghost use Rattle.rule_wire.specs.laws.ThresholdLaws.{color_threshold_format, color_threshold_some};
 
     type Value = ColorThreshold;
@@ -168,7 +168,7 @@ pub(crate) struct IconThresholdPart;
 
 impl Part for IconThresholdPart {
     ghost use Rattle.rule_wire.specs.ThresholdBytes.{encode_icon_threshold, FitsIconThreshold, IsKnownIconThreshold};
-    ghost use Rattle.rule_wire.specs.laws.Reading.{icon_threshold_at};
+    ghost use Rattle.rule_wire.specs.laws.RuleReading.{icon_threshold_at};
     ghost use Rattle.rule_wire.specs.laws.ThresholdLaws.{icon_threshold_format, icon_threshold_some};
 
     type Value = IconThreshold;

@@ -1,2 +1,2 @@
-pub mod Reading
-pub mod Formats
+pub mod SettingReading
+pub mod SettingFormats

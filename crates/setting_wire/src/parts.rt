@@ -15,8 +15,8 @@ impl Part for RgbPart {
     ghost use Rattle.std.proofs.Common.{arith};
     ghost use Rattle.base_wire.specs.Encoding.{Any};
     ghost use Rattle.setting_wire.specs.ThemeBytes.{encode_rgb, FitsRgb};
-    ghost use Rattle.setting_wire.specs.laws.Reading.{rgb_at};
-    ghost use Rattle.setting_wire.specs.laws.Formats.{rgb_format};
+    ghost use Rattle.setting_wire.specs.laws.SettingReading.{rgb_at};
+    ghost use Rattle.setting_wire.specs.laws.SettingFormats.{rgb_format};
 
     type Value = RgbColor;
 
@@ -53,8 +53,8 @@ pub struct ThemePart;
 impl Part for ThemePart {
     ghost use Rattle.base_wire.specs.Encoding.{Any};
     ghost use Rattle.setting_wire.specs.ThemeBytes.{encode_theme, FitsTheme};
-    ghost use Rattle.setting_wire.specs.laws.Reading.{theme_at};
-    ghost use Rattle.setting_wire.specs.laws.Formats.{theme_format, theme_some};
+    ghost use Rattle.setting_wire.specs.laws.SettingReading.{theme_at};
+    ghost use Rattle.setting_wire.specs.laws.SettingFormats.{theme_format, theme_some};
 
     type Value = Theme;
 
@@ -92,8 +92,8 @@ impl Part for LocalePart {
     ghost use Rattle.std.proofs.Common.{arith};
     ghost use Rattle.base_wire.specs.Encoding.{Any};
     ghost use Rattle.setting_wire.specs.TableBytes.{encode_locale};
-    ghost use Rattle.setting_wire.specs.laws.Reading.{locale_at};
-    ghost use Rattle.setting_wire.specs.laws.Formats.{locale_format};
+    ghost use Rattle.setting_wire.specs.laws.SettingReading.{locale_at};
+    ghost use Rattle.setting_wire.specs.laws.SettingFormats.{locale_format};
 
     type Value = Locale;
 
@@ -132,8 +132,8 @@ impl Part for ZonePart {
     ghost use Rattle.std.proofs.Common.{arith};
     ghost use Rattle.base_wire.specs.Encoding.{Any};
     ghost use Rattle.setting_wire.specs.TableBytes.{encode_zone};
-    ghost use Rattle.setting_wire.specs.laws.Reading.{zone_at};
-    ghost use Rattle.setting_wire.specs.laws.Formats.{zone_format};
+    ghost use Rattle.setting_wire.specs.laws.SettingReading.{zone_at};
+    ghost use Rattle.setting_wire.specs.laws.SettingFormats.{zone_format};
 
     type Value = Zone;
 

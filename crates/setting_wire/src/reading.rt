@@ -5,7 +5,7 @@ ghost use Rattle.base_values.specs.Answers.{Answers, map_ok, ok_or};
 ghost use Rattle.base_values.specs.declared.EditError.TheVariants.{ParseDiffs};
 ghost use Rattle.base_tables.specs.Locale.{locale_of_code};
 ghost use Rattle.base_tables.specs.Zone.{zone_of_code};
-ghost use Rattle.setting_wire.specs.laws.Reading.{locale_at, zone_at, rgb_at, theme_at};
+ghost use Rattle.setting_wire.specs.laws.SettingReading.{locale_at, zone_at, rgb_at, theme_at};
 
 use crate::parts::RgbPart;
 use crate::steps::read;
@@ -14,7 +14,7 @@ use base_tables::{Locale, Zone};
 use base_values::EditError;
 use std::alloc::Global;
 
-#[tactic(auto, unfolding(crate::specs::laws::Reading::rgb_at))]
+#[tactic(auto, unfolding(crate::specs::laws::SettingReading::rgb_at))]
 pub(crate) fn rgb_at(alloc: Global, bytes: &[u8]) -> Result<(RgbColor, &[u8]), EditError>
     ensures { Answers (map_ok (λ x. (x.0, x.1.now)) result) (rgb_at bytes.now) }
 {
@@ -24,7 +24,7 @@ pub(crate) fn rgb_at(alloc: Global, bytes: &[u8]) -> Result<(RgbColor, &[u8]), E
     Ok((RgbColor::new(red, green, blue), rest))
 }
 
-#[tactic(auto, unfolding(crate::specs::laws::Reading::theme_at))]
+#[tactic(auto, unfolding(crate::specs::laws::SettingReading::theme_at))]
 pub(crate) fn theme_at(alloc: Global, bytes: &[u8]) -> Result<(Theme, &[u8]), EditError>
     ensures { Answers (map_ok (λ x. (x.0, x.1.now)) result) (theme_at bytes.now) }
 {
@@ -66,7 +66,7 @@ fn locale_of(code: u8) -> Result<Locale, EditError>
     }
 }
 
-#[tactic(auto, unfolding(crate::specs::laws::Reading::locale_at))]
+#[tactic(auto, unfolding(crate::specs::laws::SettingReading::locale_at))]
 pub(crate) fn locale_at(alloc: Global, bytes: &[u8]) -> Result<(Locale, &[u8]), EditError>
     ensures { Answers (map_ok (λ x. (x.0, x.1.now)) result) (locale_at bytes.now) }
 {
@@ -84,7 +84,7 @@ fn zone_of(code: u8) -> Result<Zone, EditError>
     }
 }
 
-#[tactic(auto, unfolding(crate::specs::laws::Reading::zone_at))]
+#[tactic(auto, unfolding(crate::specs::laws::SettingReading::zone_at))]
 pub(crate) fn zone_at(alloc: Global, bytes: &[u8]) -> Result<(Zone, &[u8]), EditError>
     ensures { Answers (map_ok (λ x. (x.0, x.1.now)) result) (zone_at bytes.now) }
 {

@@ -24,7 +24,7 @@ type RulesPart = MapPart<SheetIndexKeys<ConditionalFormatting>, SheetIndexPart, 
 
 type NameTreesPart = MapPart<IndexKeys<Shared<Node>>, u64, Shared<NodePart>>;
 
-#[tactic(auto, unfolding(crate::specs::laws::Reading::trees_at, crate::specs::laws::Reading::name_trees_at, crate::specs::laws::Reading::renamed_rules_at, lines_wire::specs::laws::Reading::formulas_at))]
+#[tactic(auto, unfolding(crate::specs::laws::Reading::trees_at, crate::specs::laws::Reading::name_trees_at, crate::specs::laws::Reading::renamed_rules_at, lines_wire::specs::laws::LinesReading::formulas_at))]
 fn trees_at<'a>(
     alloc: Global,
     plain: &Shared<Style>,

@@ -5,7 +5,7 @@ use Rattle.base_wire.specs.laws.Format.{Format, list_format}
 use Rattle.base_wire.specs.laws.Formats.{both_format, made_format}
 use Rattle.base_wire.specs.laws.Parts.{signed_format, text_format}
 use Rattle.cell_wire.specs.LinkBytes.{encode_link, FitsLink}
-use Rattle.cell_wire.specs.laws.Reading.{link_made, link_at, merge_made, merge_at, merges_at}
+use Rattle.cell_wire.specs.laws.CellReading.{link_made, link_at, merge_made, merge_at, merges_at}
 use Rattle.cell_wire.specs.MergeBytes.{encode_merge, FitsMerge, encode_merges, FitsMerges}
 
 pub link_format : Format FitsLink encode_link link_at

@@ -22,7 +22,7 @@ use Rattle.formula_wire.specs.laws.Reading.{node_at}
 use Rattle.formula_wire.specs.Carried.{FitsNode}
 use Rattle.base_wire.specs.Encoding.{Both, encode_both, encode_option, encode_signed}
 use Rattle.cell_wire.specs.StyleBytes.{encode_color, FitsColor, encode_font, FitsFont, border_code, encode_border_item, FitsBorderItem, encode_border, FitsBorder, horizontal_code, vertical_code, encode_alignment, encode_style, FitsStyle}
-use Rattle.cell_wire.specs.laws.Reading.{color_at, font_made, font_at, border_styles, border_item_made, border_item_at, border_made, side_at, border_at, horizontals, verticals, alignment_made, alignment_at, alignment_option_at, style_made, style_at, position_made, position_at, content_at, cell_made, cell_at}
+use Rattle.cell_wire.specs.laws.CellReading.{color_at, font_made, font_at, border_styles, border_item_made, border_item_at, border_made, side_at, border_at, horizontals, verticals, alignment_made, alignment_at, alignment_option_at, style_made, style_at, position_made, position_at, content_at, cell_made, cell_at}
 use Rattle.cell_wire.specs.CellBytes.{encode_position, FitsPosition, encode_content, FitsContent, encode_cell, FitsCell}
 use Rattle.base_wire.specs.laws.Again.{ReadsAgain, both_again, map_again, code_again, wide32, signed_again, text_again, option_again}
 use Rattle.base_wire.specs.Encoding.{Any}

@@ -9,7 +9,7 @@ use Rattle.base_tables.specs.laws.Tables.{found_number}
 use Rattle.cell_content.specs.declared.Content.TheVariants.{Empty, Number, Boolean, Error as ErrorValue, Text, Formula, Dynamic}
 use Rattle.base_wire.specs.Encoding.{encode_option}
 use Rattle.cell_wire.specs.StyleBytes.{encode_color, FitsColor, encode_font, FitsFont, border_code, encode_border_item, FitsBorderItem, encode_border, FitsBorder, horizontal_code, vertical_code, encode_alignment, encode_style, FitsStyle}
-use Rattle.cell_wire.specs.laws.Reading.{color_at, font_made, font_at, border_styles, border_item_made, border_item_at, border_made, side_at, border_at, horizontals, verticals, alignment_made, alignment_at, alignment_option_at, style_made, style_at, position_made, position_at, content_at, cell_made, cell_at, rgb, color_of, array_made, content_of}
+use Rattle.cell_wire.specs.laws.CellReading.{color_at, font_made, font_at, border_styles, border_item_made, border_item_at, border_made, side_at, border_at, horizontals, verticals, alignment_made, alignment_at, alignment_option_at, style_made, style_at, position_made, position_at, content_at, cell_made, cell_at, rgb, color_of, array_made, content_of}
 use Rattle.cell_wire.specs.CellBytes.{encode_position, FitsPosition, encode_content, FitsContent, encode_cell, FitsCell}
 use Rattle.base_wire.specs.laws.Reading.{◌⊗◌, signed_at}
 use Rattle.base_wire.specs.Encoding.{Any, Both, encode_both, encode_signed}

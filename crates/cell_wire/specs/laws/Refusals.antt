@@ -8,7 +8,7 @@ use Rattle.base_wire.specs.laws.Refusals.{IsPlain, both_plain, map_plain, byte_p
 use Rattle.base_wire.specs.laws.Parts.{boolean_plain, error_plain, decimal_plain}
 use Rattle.formula_wire.specs.laws.NodeLaws.{node_plain}
 use Rattle.cell_wire.specs.StyleBytes.{border_code, horizontal_code, vertical_code}
-use Rattle.cell_wire.specs.laws.Reading.{rgb, color_of, color_at, font_made, font_at, border_styles, border_item_made, border_item_at, border_made, side_at, border_at, horizontals, verticals, alignment_made, alignment_at, alignment_option_at, style_made, style_at, position_made, position_at, array_made, content_of, content_at, cell_made, cell_at}
+use Rattle.cell_wire.specs.laws.CellReading.{rgb, color_of, color_at, font_made, font_at, border_styles, border_item_made, border_item_at, border_made, side_at, border_at, horizontals, verticals, alignment_made, alignment_at, alignment_option_at, style_made, style_at, position_made, position_at, array_made, content_of, content_at, cell_made, cell_at}
 
 pub color_plain : IsPlain color_at
 unfolding color_at

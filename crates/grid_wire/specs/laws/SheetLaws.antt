@@ -11,7 +11,7 @@ use Rattle.base_wire.specs.laws.Parts.{boolean_format, short_format, signed_form
 use Rattle.map_wire.specs.MapBytes.{encode_map, FitsMap}
 use Rattle.cell_wire.specs.CellBytes.{encode_position, encode_cell, FitsCell}
 use Rattle.cell_wire.specs.LinkBytes.{encode_link, FitsLink}
-use Rattle.cell_wire.specs.laws.Formats.{color_format, cell_format}
+use Rattle.cell_wire.specs.laws.CellFormats.{color_format, cell_format}
 use Rattle.cell_wire.specs.laws.MergeLaws.{link_format, merges_format}
 use Rattle.rule_wire.specs.laws.FormattingLaws.{formattings_format}
 use Rattle.grid_wire.specs.LineBytes.{encode_line, FitsLine}

@@ -18,7 +18,7 @@ use Rattle.formula_wire.specs.NodeBytes.{encode_node}
 use Rattle.formula_wire.specs.Carried.{FitsNode}
 use Rattle.formula_wire.specs.laws.NodeLaws.{node_format}
 use Rattle.cell_wire.specs.CellBytes.{encode_position, FitsPosition, encode_cell, FitsCell}
-use Rattle.cell_wire.specs.laws.Formats.{position_format, position_some, cell_format}
+use Rattle.cell_wire.specs.laws.CellFormats.{position_format, position_some, cell_format}
 use Rattle.cell_wire.specs.LinkBytes.{encode_link, FitsLink}
 use Rattle.cell_wire.specs.MergeBytes.{encode_merges, FitsMerges}
 use Rattle.cell_wire.specs.laws.MergeLaws.{link_format, merges_format}
@@ -31,7 +31,7 @@ use Rattle.rule_wire.specs.laws.FormattingLaws.{formatting_format}
 use Rattle.grid_wire.specs.laws.LineLaws.{line_format}
 use Rattle.lines_wire.specs.laws.PartLaws.{sheet_place_format, sheet_place_some}
 use Rattle.lines_wire.specs.KeptBytes.{encode_kept, FitsKept}
-use Rattle.lines_wire.specs.laws.Reading.{cells_at, links_at, lines_at, formulas_at, kept_merges_at, kept_rules_at, kept_made, kept_at}
+use Rattle.lines_wire.specs.laws.LinesReading.{cells_at, links_at, lines_at, formulas_at, kept_merges_at, kept_rules_at, kept_made, kept_at}
 
 -- ---- maps
 

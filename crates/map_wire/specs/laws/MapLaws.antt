@@ -12,7 +12,7 @@ use Rattle.base_wire.specs.Encoding.{Both, FitsItems, encode_both}
 use Rattle.base_wire.specs.laws.Format.{Format, list_format}
 use Rattle.base_wire.specs.laws.Formats.{both_format, check_format, made_format}
 use Rattle.map_wire.specs.MapBytes.{encode_entries, encode_map, FitsMap}
-use Rattle.map_wire.specs.laws.Reading.{entries_at, map_of_at}
+use Rattle.map_wire.specs.laws.MapReading.{entries_at, map_of_at}
 
 holds : (b : Bool) → T b → b ≡ true
 holds true h = refl

@@ -6,7 +6,7 @@ use Rattle.base_wire.specs.laws.Parts.{short_format}
 use Rattle.cell_wire.specs.laws.MergeLaws.{merge_format, merge_some}
 use Rattle.format_rules.specs.declared.ConditionalFormatting.{ConditionalFormatting}
 use Rattle.rule_wire.specs.FormattingBytes.{encode_areas, FitsAreas, encode_formatting, FitsFormatting, encode_formattings, FitsFormattings}
-use Rattle.rule_wire.specs.laws.Reading.{areas_at, formatting_made, formatting_at, formattings_at}
+use Rattle.rule_wire.specs.laws.RuleReading.{areas_at, formatting_made, formatting_at, formattings_at}
 use Rattle.rule_wire.specs.laws.RuleLaws.{rule_format}
 
 areas_format : Format FitsAreas encode_areas areas_at

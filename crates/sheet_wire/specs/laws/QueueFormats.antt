@@ -17,13 +17,13 @@ use Rattle.base_wire.specs.laws.Again.{ReadsAgain, code_again}
 use Rattle.base_wire.specs.laws.Format.{Format, list_format, option_format}
 use Rattle.base_wire.specs.laws.Formats.{both_format, after_format, made_format}
 use Rattle.base_wire.specs.laws.Parts.{boolean_format, short_format, signed_format, text_format}
-use Rattle.cell_wire.specs.laws.Reading.{color_at, cell_at, link_at, merges_at}
+use Rattle.cell_wire.specs.laws.CellReading.{color_at, cell_at, link_at, merges_at}
 use Rattle.base_wire.specs.laws.Refusals.{IsPlain, code_plain, if_plain, map_plain, refused_plain, tagged_plain}
 use Rattle.base_wire.specs.laws.Encoded.{ReadsEncoded, code_encoded, tag_if, tag_map, tag_refused, tagged_encoded}
 use Rattle.cell_wire.specs.CellBytes.{encode_position, FitsPosition, encode_cell}
 use Rattle.cell_wire.specs.LinkBytes.{encode_link}
 use Rattle.cell_wire.specs.MergeBytes.{encode_merges}
-use Rattle.cell_wire.specs.laws.Formats.{color_format, position_format, cell_format}
+use Rattle.cell_wire.specs.laws.CellFormats.{color_format, position_format, cell_format}
 use Rattle.cell_wire.specs.laws.MergeLaws.{link_format, merges_format}
 use Rattle.lines_wire.specs.EditBytes.{encode_edit, FitsEdit}
 use Rattle.lines_wire.specs.KeptBytes.{encode_kept, FitsKept}
@@ -41,9 +41,9 @@ use Rattle.sheet_wire.specs.AttrBytes.{encode_attr_change}
 use Rattle.sheet_wire.specs.laws.AttrFormats.{attr_parts_format}
 use Rattle.sheet_wire.specs.laws.SheetsFormats.{sheet_change_format, sheet_state_format, new_parts_format, copy_parts_format, deletion_parts_format, move_parts_format}
 use Rattle.setting_wire.specs.TableBytes.{encode_locale, encode_zone}
-use Rattle.setting_wire.specs.laws.Reading.{locale_at, zone_at, theme_at}
+use Rattle.setting_wire.specs.laws.SettingReading.{locale_at, zone_at, theme_at}
 use Rattle.setting_wire.specs.ThemeBytes.{encode_theme}
-use Rattle.setting_wire.specs.laws.Formats.{locale_format, theme_format, zone_format}
+use Rattle.setting_wire.specs.laws.SettingFormats.{locale_format, theme_format, zone_format}
 use Rattle.sheet_wire.specs.SettingBytes.{encode_twice}
 use Rattle.sheet_wire.specs.laws.SettingFormats.{twice_format}
 use Rattle.sheet_wire.specs.QueueBytes.{encode_diff, FitsDiff, FitsList, direction_code, encode_entry, FitsEntry, magic, FitsQueue}

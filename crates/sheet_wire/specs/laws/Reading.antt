@@ -5,16 +5,16 @@ use Rattle.sheet_grid.specs.declared.LineAttr.{LineAttr}
 use Rattle.base_wire.specs.laws.Reading.{Reader, ◌⊗◌, number_at, option_at, signed_at, code_at, map_at, text_at, boolean_at, refused, tagged_at, list_at, after, whole}
 use Rattle.grid_wire.specs.laws.Reading.{line_at, name_at, states, sheet_at}
 use Rattle.base_values.specs.declared.Position.{Position}
-use Rattle.cell_wire.specs.laws.Reading.{position_at, cell_at, color_at, link_at, merges_at}
+use Rattle.cell_wire.specs.laws.CellReading.{position_at, cell_at, color_at, link_at, merges_at}
 use Rattle.line_edits.specs.declared.EditKind.{EditKind}
 use Rattle.sheet_lines.specs.declared.KeptLines.{KeptLines}
 use Rattle.sheet_history.specs.declared.LineAxis.{LineAxis}
 use Rattle.sheet_history.specs.declared.LineAxis.TheVariants.{Rows, Columns}
-use Rattle.lines_wire.specs.laws.Reading.{edit_at, kept_at, sheet_index_at, formulas_at}
+use Rattle.lines_wire.specs.laws.LinesReading.{edit_at, kept_at, sheet_index_at, formulas_at}
 use Rattle.sheet_history.specs.declared.SettingChange.TheVariants as setting
 use Rattle.format_rules.specs.declared.ConditionalFormatting.{ConditionalFormatting}
 use Rattle.rule_edits.specs.declared.RuleChange.{RuleChange}
-use Rattle.rule_wire.specs.laws.Reading.{formatting_at}
+use Rattle.rule_wire.specs.laws.RuleReading.{formatting_at}
 use Rattle.std.specs.Ordering.{nat_cmp}
 use Rattle.std.specs.FinMap.{FinMap}
 use Rattle.base_maps.specs.SheetPlaces.{sheet_place_cmp}
@@ -23,7 +23,7 @@ use Rattle.formula_tree.specs.declared.Node.{Node}
 use Rattle.defined_names.specs.declared.DefinedName.{DefinedName}
 use Rattle.book_names.specs.declared.KeptTrees.{KeptTrees}
 use Rattle.formula_wire.specs.laws.Reading.{node_at}
-use Rattle.map_wire.specs.laws.Reading.{map_of_at}
+use Rattle.map_wire.specs.laws.MapReading.{map_of_at}
 use Rattle.base_styles.specs.declared.Color.{Color}
 use Rattle.sheet_grid.specs.Sheet.{Sheet}
 use Rattle.sheet_grid.specs.declared.SheetState.{SheetState}
@@ -42,7 +42,7 @@ use Rattle.sheet_history.specs.declared.Diff.TheVariants.{Cell as CellDiff, Link
 use Rattle.sheet_history.specs.declared.DiffType.{DiffType}
 use Rattle.sheet_history.specs.declared.DiffType.TheVariants.{Undo, Redo}
 use Rattle.sheet_history.specs.declared.QueueDiffs.{QueueDiffs}
-use Rattle.setting_wire.specs.laws.Reading.{locale_at, zone_at, theme_at}
+use Rattle.setting_wire.specs.laws.SettingReading.{locale_at, zone_at, theme_at}
 use Rattle.sheet_wire.specs.LinesBytes.{axis_code}
 use Rattle.sheet_wire.specs.QueueBytes.{direction_code, magic}
 

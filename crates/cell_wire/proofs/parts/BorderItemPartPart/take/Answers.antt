@@ -1,6 +1,6 @@
 use Rattle.std.proofs.Common.{arith}
 use Rattle.base_wire.specs.laws.Format.{reads}
-use Rattle.cell_wire.specs.laws.Formats.{border_item_format}
+use Rattle.cell_wire.specs.laws.CellFormats.{border_item_format}
 use Rattle.cell_wire.proofs.parts.BorderItemPartPart.take.Goals as goal
 
 pub returns : goal.returns

@@ -1,6 +1,6 @@
 use Rattle.std.proofs.Common.{arith}
 use Rattle.base_wire.specs.laws.Format.{reads}
-use Rattle.cell_wire.specs.laws.Formats.{color_format}
+use Rattle.cell_wire.specs.laws.CellFormats.{color_format}
 use Rattle.cell_wire.proofs.parts.ColorPartPart.take.Goals as goal
 
 pub returns : goal.returns

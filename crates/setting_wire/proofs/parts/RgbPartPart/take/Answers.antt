@@ -1,6 +1,6 @@
 use Rattle.std.proofs.Common.{arith}
 use Rattle.base_wire.specs.laws.Format.{reads}
-use Rattle.setting_wire.specs.laws.Formats.{rgb_format}
+use Rattle.setting_wire.specs.laws.SettingFormats.{rgb_format}
 use Rattle.setting_wire.proofs.parts.RgbPartPart.take.Goals as goal
 
 pub returns : goal.returns

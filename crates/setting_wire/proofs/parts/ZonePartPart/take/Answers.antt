@@ -1,6 +1,6 @@
 use Rattle.std.proofs.Common.{arith}
 use Rattle.base_wire.specs.laws.Format.{reads}
-use Rattle.setting_wire.specs.laws.Formats.{zone_format}
+use Rattle.setting_wire.specs.laws.SettingFormats.{zone_format}
 use Rattle.setting_wire.proofs.parts.ZonePartPart.take.Goals as goal
 
 pub returns : goal.returns

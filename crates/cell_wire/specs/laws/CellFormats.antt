@@ -9,7 +9,7 @@ use Rattle.sheet_grid.specs.declared.Cell.{Cell}
 use Rattle.base_wire.specs.Encoding.{Any}
 use Rattle.base_wire.specs.laws.Format.{Format}
 use Rattle.cell_wire.specs.StyleBytes.{encode_color, FitsColor, encode_border_item, FitsBorderItem, encode_alignment, encode_style, FitsStyle}
-use Rattle.cell_wire.specs.laws.Reading.{color_at, border_item_at, alignment_at, style_at, position_at, cell_at}
+use Rattle.cell_wire.specs.laws.CellReading.{color_at, border_item_at, alignment_at, style_at, position_at, cell_at}
 use Rattle.cell_wire.specs.CellBytes.{encode_position, FitsPosition, encode_content, encode_cell, FitsCell}
 use Rattle.cell_wire.specs.laws.PartsAgain.{color_again, border_item_again, alignment_again, style_again, position_again, cell_again}
 use Rattle.cell_wire.specs.laws.PartsEncoded.{color_encoded, border_item_encoded, alignment_encoded, style_encoded, position_encoded, cell_encoded}

@@ -18,4 +18,4 @@ mod writing;
 
 pub use codes::boolean_code;
 pub use many::put_items;
-pub use part::Part;
+pub use part::{Part, read};

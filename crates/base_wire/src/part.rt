@@ -52,8 +52,11 @@ pub trait Part {
     ghost some: { (x : Self.Value) → 1 ≤ length (encoding x) };
 }
 
-/// What `take` answers, by the steps of the reader.
-pub(crate) fn read<'a, P: Part>(
+/// The value at the front of bytes, and the bytes after it, as `Part::take` reads them: what it answers
+/// by the steps of the reader, which the proofs of other parts follow.
+///
+/// Refuses with `ParseDiffs` bytes that begin with the encoding of no value, and with `NoMemory`.
+pub fn read<'a, P: Part>(
     alloc: Global,
     context: &P::Context,
     bytes: &'a [u8],

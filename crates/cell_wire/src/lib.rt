@@ -10,7 +10,6 @@ mod codes;
 mod encode;
 mod merges;
 mod parts;
-mod read;
 mod reading_cells;
 mod reading_styles;
 mod writing;

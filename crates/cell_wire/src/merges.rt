@@ -5,10 +5,9 @@ ghost use Rattle.base_values.specs.Answers.{Answers, map_ok};
 ghost use Rattle.cell_wire.specs.laws.CellReading.{link_at, merge_at, merges_at};
 ghost use Rattle.cell_wire.specs.MergeBytes.{encode_merge, encode_merges, FitsMerge, FitsMerges};
 
-use crate::read::read;
 use base_axis::{MergeList, MergedCell};
 use base_values::{EditError, Items, Text};
-use base_wire::{Part, put_items};
+use base_wire::{Part, put_items, read};
 use sheet_grid::Link;
 use std::alloc::{AllocError, Global};
 
@@ -16,7 +15,7 @@ use std::alloc::{AllocError, Global};
 fn link_at(alloc: Global, bytes: &[u8]) -> Result<(Link, &[u8]), EditError>
     ensures { Answers (map_ok (λ x. (x.0, x.1.now)) result) (link_at bytes.now) }
 {
-    let (target, rest) = read::<Text>(alloc, bytes)?;
+    let (target, rest) = read::<Text>(alloc, &(), bytes)?;
     Ok((Link { target }, rest))
 }
 
@@ -24,10 +23,10 @@ fn link_at(alloc: Global, bytes: &[u8]) -> Result<(Link, &[u8]), EditError>
 fn merge_at(alloc: Global, bytes: &[u8]) -> Result<(MergedCell, &[u8]), EditError>
     ensures { Answers (map_ok (λ x. (x.0, x.1.now)) result) (merge_at bytes.now) }
 {
-    let (row, rest) = read::<i32>(alloc, bytes)?;
-    let (column, rest) = read::<i32>(alloc, rest)?;
-    let (width, rest) = read::<i32>(alloc, rest)?;
-    let (height, rest) = read::<i32>(alloc, rest)?;
+    let (row, rest) = read::<i32>(alloc, &(), bytes)?;
+    let (column, rest) = read::<i32>(alloc, &(), rest)?;
+    let (width, rest) = read::<i32>(alloc, &(), rest)?;
+    let (height, rest) = read::<i32>(alloc, &(), rest)?;
     let merge = MergedCell {
         row,
         column,
@@ -41,7 +40,7 @@ fn merge_at(alloc: Global, bytes: &[u8]) -> Result<(MergedCell, &[u8]), EditErro
 fn merges_at(alloc: Global, bytes: &[u8]) -> Result<(MergeList, &[u8]), EditError>
     ensures { Answers (map_ok (λ x. (x.0, x.1.now)) result) (merges_at bytes.now) }
 {
-    let (items, rest) = read::<Items<MergedCellPart>>(alloc, bytes)?;
+    let (items, rest) = read::<Items<MergedCellPart>>(alloc, &(), bytes)?;
     Ok((MergeList::new(items), rest))
 }
 

@@ -3,8 +3,8 @@
 ghost use Rattle.base_values.specs.Answers.{Answers, map_ok};
 ghost use Rattle.cell_wire.specs.laws.CellReading.{cell_at, content_at, formula_at, position_at, sides_at};
 
-use crate::read::read;
 use crate::reading_styles::style_at;
+use base_wire::read;
 use base_decimal::Decimal;
 use base_shared::Shared;
 use base_styles::Style;
@@ -20,8 +20,8 @@ use std::alloc::Global;
 pub(crate) fn position_at(alloc: Global, bytes: &[u8]) -> Result<(Position, &[u8]), EditError>
     ensures { Answers (map_ok (λ x. (x.0, x.1.now)) result) (position_at bytes.now) }
 {
-    let (row, rest) = read::<i32>(alloc, bytes)?;
-    let (column, rest) = read::<i32>(alloc, rest)?;
+    let (row, rest) = read::<i32>(alloc, &(), bytes)?;
+    let (column, rest) = read::<i32>(alloc, &(), rest)?;
     Ok((Position { row, column }, rest))
 }
 
@@ -29,8 +29,8 @@ pub(crate) fn position_at(alloc: Global, bytes: &[u8]) -> Result<(Position, &[u8
 fn array_at(alloc: Global, tree: Shared<Node>, bytes: &[u8]) -> Result<(Content, &[u8]), EditError>
     ensures { Answers (map_ok (λ x. (x.0, x.1.now)) result) (sides_at tree bytes.now) }
 {
-    let (width, rest) = read::<i32>(alloc, bytes)?;
-    let (height, rest) = read::<i32>(alloc, rest)?;
+    let (width, rest) = read::<i32>(alloc, &(), bytes)?;
+    let (height, rest) = read::<i32>(alloc, &(), rest)?;
     let array = Content::Array {
         tree,
         width,
@@ -43,7 +43,7 @@ fn array_at(alloc: Global, tree: Shared<Node>, bytes: &[u8]) -> Result<(Content,
 fn formula_at(alloc: Global, kind: u8, bytes: &[u8]) -> Result<(Content, &[u8]), EditError>
     ensures { Answers (map_ok (λ x. (x.0, x.1.now)) result) (formula_at kind bytes.now) }
 {
-    let (tree, rest) = read::<Shared<NodePart>>(alloc, bytes)?;
+    let (tree, rest) = read::<Shared<NodePart>>(alloc, &(), bytes)?;
     match kind {
         5 => Ok((Content::Formula(tree), rest)),
         6 => Ok((Content::Dynamic(tree), rest)),
@@ -55,23 +55,23 @@ fn formula_at(alloc: Global, kind: u8, bytes: &[u8]) -> Result<(Content, &[u8]),
 fn content_at(alloc: Global, bytes: &[u8]) -> Result<(Content, &[u8]), EditError>
     ensures { Answers (map_ok (λ x. (x.0, x.1.now)) result) (content_at bytes.now) }
 {
-    let (kind, rest) = read::<u8>(alloc, bytes)?;
+    let (kind, rest) = read::<u8>(alloc, &(), bytes)?;
     match kind {
         0 => Ok((Content::Empty, rest)),
         1 => {
-            let (number, rest) = read::<Decimal>(alloc, rest)?;
+            let (number, rest) = read::<Decimal>(alloc, &(), rest)?;
             Ok((Content::Number(number), rest))
         }
         2 => {
-            let (value, rest) = read::<bool>(alloc, rest)?;
+            let (value, rest) = read::<bool>(alloc, &(), rest)?;
             Ok((Content::Boolean(value), rest))
         }
         3 => {
-            let (error, rest) = read::<Error>(alloc, rest)?;
+            let (error, rest) = read::<Error>(alloc, &(), rest)?;
             Ok((Content::Error(error), rest))
         }
         4 => {
-            let (text, rest) = read::<Text>(alloc, rest)?;
+            let (text, rest) = read::<Text>(alloc, &(), rest)?;
             Ok((Content::Text(text), rest))
         }
         5 | 6 | 7 => formula_at(alloc, kind, rest),

@@ -10,7 +10,7 @@ ghost use Rattle.cell_wire.specs.laws.CellReading.{alignment_at, border_at, bord
 
 use crate::codes::{border_style_of, horizontal_of, theme_of, vertical_of};
 use crate::parts::{AlignmentPart, BorderItemPart};
-use crate::read::read;
+use base_wire::read;
 use base_shared::Shared;
 use base_styles::{
     Alignment, Border, BorderItem, BorderStyle, Color, Font, HorizontalAlignment, Style,
@@ -22,7 +22,7 @@ use std::alloc::Global;
 fn theme_at(alloc: Global, bytes: &[u8]) -> Result<(ThemeColor, &[u8]), EditError>
     ensures { Answers (map_ok (λ x. (x.0, x.1.now)) result) (coded_at theme_color_of_code bytes.now) }
 {
-    let (code, rest) = read::<u8>(alloc, bytes)?;
+    let (code, rest) = read::<u8>(alloc, &(), bytes)?;
     let theme = theme_of(code)?;
     Ok((theme, rest))
 }
@@ -30,7 +30,7 @@ fn theme_at(alloc: Global, bytes: &[u8]) -> Result<(ThemeColor, &[u8]), EditErro
 fn border_style_at(alloc: Global, bytes: &[u8]) -> Result<(BorderStyle, &[u8]), EditError>
     ensures { Answers (map_ok (λ x. (x.0, x.1.now)) result) (code_at border_code border_styles bytes.now) }
 {
-    let (code, rest) = read::<u8>(alloc, bytes)?;
+    let (code, rest) = read::<u8>(alloc, &(), bytes)?;
     let style = border_style_of(code)?;
     Ok((style, rest))
 }
@@ -38,7 +38,7 @@ fn border_style_at(alloc: Global, bytes: &[u8]) -> Result<(BorderStyle, &[u8]), 
 fn horizontal_at(alloc: Global, bytes: &[u8]) -> Result<(HorizontalAlignment, &[u8]), EditError>
     ensures { Answers (map_ok (λ x. (x.0, x.1.now)) result) (code_at horizontal_code horizontals bytes.now) }
 {
-    let (code, rest) = read::<u8>(alloc, bytes)?;
+    let (code, rest) = read::<u8>(alloc, &(), bytes)?;
     let horizontal = horizontal_of(code)?;
     Ok((horizontal, rest))
 }
@@ -46,7 +46,7 @@ fn horizontal_at(alloc: Global, bytes: &[u8]) -> Result<(HorizontalAlignment, &[
 fn vertical_at(alloc: Global, bytes: &[u8]) -> Result<(VerticalAlignment, &[u8]), EditError>
     ensures { Answers (map_ok (λ x. (x.0, x.1.now)) result) (code_at vertical_code verticals bytes.now) }
 {
-    let (code, rest) = read::<u8>(alloc, bytes)?;
+    let (code, rest) = read::<u8>(alloc, &(), bytes)?;
     let vertical = vertical_of(code)?;
     Ok((vertical, rest))
 }
@@ -55,13 +55,13 @@ fn vertical_at(alloc: Global, bytes: &[u8]) -> Result<(VerticalAlignment, &[u8])
 pub(crate) fn color_at(alloc: Global, bytes: &[u8]) -> Result<(Color, &[u8]), EditError>
     ensures { Answers (map_ok (λ x. (x.0, x.1.now)) result) (color_at bytes.now) }
 {
-    let (kind, rest) = read::<u8>(alloc, bytes)?;
+    let (kind, rest) = read::<u8>(alloc, &(), bytes)?;
     match kind {
         0 => Ok((Color::None, rest)),
         1 => {
-            let (red, rest) = read::<u8>(alloc, rest)?;
-            let (green, rest) = read::<u8>(alloc, rest)?;
-            let (blue, rest) = read::<u8>(alloc, rest)?;
+            let (red, rest) = read::<u8>(alloc, &(), rest)?;
+            let (green, rest) = read::<u8>(alloc, &(), rest)?;
+            let (blue, rest) = read::<u8>(alloc, &(), rest)?;
             Ok((Color::Rgb { red, green, blue }, rest))
         }
         2 => {
@@ -76,11 +76,11 @@ pub(crate) fn color_at(alloc: Global, bytes: &[u8]) -> Result<(Color, &[u8]), Ed
 fn font_at(alloc: Global, bytes: &[u8]) -> Result<(Font, &[u8]), EditError>
     ensures { Answers (map_ok (λ x. (x.0, x.1.now)) result) (font_at bytes.now) }
 {
-    let (b, rest) = read::<bool>(alloc, bytes)?;
-    let (i, rest) = read::<bool>(alloc, rest)?;
-    let (u, rest) = read::<bool>(alloc, rest)?;
-    let (strike, rest) = read::<bool>(alloc, rest)?;
-    let (sz, rest) = read::<i32>(alloc, rest)?;
+    let (b, rest) = read::<bool>(alloc, &(), bytes)?;
+    let (i, rest) = read::<bool>(alloc, &(), rest)?;
+    let (u, rest) = read::<bool>(alloc, &(), rest)?;
+    let (strike, rest) = read::<bool>(alloc, &(), rest)?;
+    let (sz, rest) = read::<i32>(alloc, &(), rest)?;
     let (color, rest) = color_at(alloc, rest)?;
     let font = Font {
         b,
@@ -106,10 +106,10 @@ pub(crate) fn border_item_at(alloc: Global, bytes: &[u8]) -> Result<(BorderItem,
 fn border_at(alloc: Global, bytes: &[u8]) -> Result<(Border, &[u8]), EditError>
     ensures { Answers (map_ok (λ x. (x.0, x.1.now)) result) (border_at bytes.now) }
 {
-    let (left, rest) = read::<Option<BorderItemPart>>(alloc, bytes)?;
-    let (right, rest) = read::<Option<BorderItemPart>>(alloc, rest)?;
-    let (top, rest) = read::<Option<BorderItemPart>>(alloc, rest)?;
-    let (bottom, rest) = read::<Option<BorderItemPart>>(alloc, rest)?;
+    let (left, rest) = read::<Option<BorderItemPart>>(alloc, &(), bytes)?;
+    let (right, rest) = read::<Option<BorderItemPart>>(alloc, &(), rest)?;
+    let (top, rest) = read::<Option<BorderItemPart>>(alloc, &(), rest)?;
+    let (bottom, rest) = read::<Option<BorderItemPart>>(alloc, &(), rest)?;
     let border = Border {
         left,
         right,
@@ -125,7 +125,7 @@ pub(crate) fn alignment_at(alloc: Global, bytes: &[u8]) -> Result<(Alignment, &[
 {
     let (horizontal, rest) = horizontal_at(alloc, bytes)?;
     let (vertical, rest) = vertical_at(alloc, rest)?;
-    let (wrap_text, rest) = read::<bool>(alloc, rest)?;
+    let (wrap_text, rest) = read::<bool>(alloc, &(), rest)?;
     let alignment = Alignment {
         horizontal,
         vertical,
@@ -141,8 +141,8 @@ fn one_style_at(alloc: Global, bytes: &[u8]) -> Result<(Style, &[u8]), EditError
     let (font, rest) = font_at(alloc, bytes)?;
     let (fill, rest) = color_at(alloc, rest)?;
     let (border, rest) = border_at(alloc, rest)?;
-    let (num_fmt, rest) = read::<Text>(alloc, rest)?;
-    let (alignment, rest) = read::<Option<AlignmentPart>>(alloc, rest)?;
+    let (num_fmt, rest) = read::<Text>(alloc, &(), rest)?;
+    let (alignment, rest) = read::<Option<AlignmentPart>>(alloc, &(), rest)?;
     let style = Style {
         font,
         fill,

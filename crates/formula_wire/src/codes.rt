@@ -7,7 +7,7 @@ ghost use Rattle.base_wire.specs.laws.Reading.{decoded};
 ghost use Rattle.formula_wire.specs.PartBytes.{compare_code, product_code, sum_code, unary_code};
 ghost use Rattle.formula_wire.specs.laws.Reading.{compare_at, comparisons, function_at, product_at, products, sum_at, sums, unaries, unary_at};
 
-use crate::read::read;
+use base_wire::read;
 use base_tables::Function;
 use base_values::EditError;
 use formula_tree::{CompareKind, ProductKind, SumKind, UnaryKind};
@@ -43,7 +43,7 @@ fn compare_of(code: u8) -> Result<CompareKind, EditError>
 pub(crate) fn compare_at(alloc: Global, bytes: &[u8]) -> Result<(CompareKind, &[u8]), EditError>
     ensures { Answers (map_ok (λ x. (x.0, x.1.now)) result) (compare_at bytes.now) }
 {
-    let (code, rest) = read::<u8>(alloc, bytes)?;
+    let (code, rest) = read::<u8>(alloc, &(), bytes)?;
     let kind = compare_of(code)?;
     Ok((kind, rest))
 }
@@ -70,7 +70,7 @@ fn sum_of(code: u8) -> Result<SumKind, EditError>
 pub(crate) fn sum_at(alloc: Global, bytes: &[u8]) -> Result<(SumKind, &[u8]), EditError>
     ensures { Answers (map_ok (λ x. (x.0, x.1.now)) result) (sum_at bytes.now) }
 {
-    let (code, rest) = read::<u8>(alloc, bytes)?;
+    let (code, rest) = read::<u8>(alloc, &(), bytes)?;
     let kind = sum_of(code)?;
     Ok((kind, rest))
 }
@@ -97,7 +97,7 @@ fn product_of(code: u8) -> Result<ProductKind, EditError>
 pub(crate) fn product_at(alloc: Global, bytes: &[u8]) -> Result<(ProductKind, &[u8]), EditError>
     ensures { Answers (map_ok (λ x. (x.0, x.1.now)) result) (product_at bytes.now) }
 {
-    let (code, rest) = read::<u8>(alloc, bytes)?;
+    let (code, rest) = read::<u8>(alloc, &(), bytes)?;
     let kind = product_of(code)?;
     Ok((kind, rest))
 }
@@ -124,7 +124,7 @@ fn unary_of(code: u8) -> Result<UnaryKind, EditError>
 pub(crate) fn unary_at(alloc: Global, bytes: &[u8]) -> Result<(UnaryKind, &[u8]), EditError>
     ensures { Answers (map_ok (λ x. (x.0, x.1.now)) result) (unary_at bytes.now) }
 {
-    let (code, rest) = read::<u8>(alloc, bytes)?;
+    let (code, rest) = read::<u8>(alloc, &(), bytes)?;
     let kind = unary_of(code)?;
     Ok((kind, rest))
 }
@@ -132,7 +132,7 @@ pub(crate) fn unary_at(alloc: Global, bytes: &[u8]) -> Result<(UnaryKind, &[u8])
 pub(crate) fn function_at(alloc: Global, bytes: &[u8]) -> Result<(Function, &[u8]), EditError>
     ensures { Answers (map_ok (λ x. (x.0, x.1.now)) result) (function_at bytes.now) }
 {
-    let (code, rest) = read::<u8>(alloc, bytes)?;
+    let (code, rest) = read::<u8>(alloc, &(), bytes)?;
     match Function::from_code(code) {
         Some(function) => Ok((function, rest)),
         None => Err(EditError::ParseDiffs),

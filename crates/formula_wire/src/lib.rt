@@ -11,7 +11,6 @@ mod node_part;
 mod parts;
 mod parts_reading;
 mod parts_writing;
-mod read;
 mod reading;
 mod writing;
 

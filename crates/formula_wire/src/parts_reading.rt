@@ -4,7 +4,7 @@ ghost use Rattle.base_values.specs.Answers.{Answers, map_ok};
 ghost use Rattle.base_wire.specs.laws.Reading.{count_at};
 ghost use Rattle.formula_wire.specs.laws.Reading.{corner_at, item_at, parameter_at};
 
-use crate::read::read;
+use base_wire::read;
 use base_decimal::Decimal;
 use base_tables::Error;
 use base_values::{EditError, Text};
@@ -16,7 +16,7 @@ use std::alloc::Global;
 pub(crate) fn count_at(alloc: Global, bytes: &[u8]) -> Result<(u64, &[u8]), EditError>
     ensures { Answers (map_ok (λ x. (x.0, x.1.now)) result) (count_at bytes.now) }
 {
-    let (count, rest) = read::<u64>(alloc, bytes)?;
+    let (count, rest) = read::<u64>(alloc, &(), bytes)?;
     if (rest.len() as u64) < count {
         return Err(EditError::ParseDiffs);
     }
@@ -27,10 +27,10 @@ pub(crate) fn count_at(alloc: Global, bytes: &[u8]) -> Result<(u64, &[u8]), Edit
 pub(crate) fn corner_at(alloc: Global, bytes: &[u8]) -> Result<(Corner, &[u8]), EditError>
     ensures { Answers (map_ok (λ x. (x.0, x.1.now)) result) (corner_at bytes.now) }
 {
-    let (absolute_row, rest) = read::<bool>(alloc, bytes)?;
-    let (row, rest) = read::<i32>(alloc, rest)?;
-    let (absolute_column, rest) = read::<bool>(alloc, rest)?;
-    let (column, rest) = read::<i32>(alloc, rest)?;
+    let (absolute_row, rest) = read::<bool>(alloc, &(), bytes)?;
+    let (row, rest) = read::<i32>(alloc, &(), rest)?;
+    let (absolute_column, rest) = read::<bool>(alloc, &(), rest)?;
+    let (column, rest) = read::<i32>(alloc, &(), rest)?;
     let corner = Corner {
         absolute_row,
         row,
@@ -44,22 +44,22 @@ pub(crate) fn corner_at(alloc: Global, bytes: &[u8]) -> Result<(Corner, &[u8]), 
 pub(crate) fn item_at(alloc: Global, bytes: &[u8]) -> Result<(ArrayItem, &[u8]), EditError>
     ensures { Answers (map_ok (λ x. (x.0, x.1.now)) result) (item_at bytes.now) }
 {
-    let (kind, rest) = read::<u8>(alloc, bytes)?;
+    let (kind, rest) = read::<u8>(alloc, &(), bytes)?;
     match kind {
         0 => {
-            let (value, rest) = read::<bool>(alloc, rest)?;
+            let (value, rest) = read::<bool>(alloc, &(), rest)?;
             Ok((ArrayItem::Boolean(value), rest))
         }
         1 => {
-            let (number, rest) = read::<Decimal>(alloc, rest)?;
+            let (number, rest) = read::<Decimal>(alloc, &(), rest)?;
             Ok((ArrayItem::Number(number), rest))
         }
         2 => {
-            let (text, rest) = read::<Text>(alloc, rest)?;
+            let (text, rest) = read::<Text>(alloc, &(), rest)?;
             Ok((ArrayItem::Text(text), rest))
         }
         3 => {
-            let (error, rest) = read::<Error>(alloc, rest)?;
+            let (error, rest) = read::<Error>(alloc, &(), rest)?;
             Ok((ArrayItem::Error(error), rest))
         }
         _ => Err(EditError::ParseDiffs),
@@ -70,7 +70,7 @@ pub(crate) fn item_at(alloc: Global, bytes: &[u8]) -> Result<(ArrayItem, &[u8]),
 pub(crate) fn parameter_at(alloc: Global, bytes: &[u8]) -> Result<(Parameter, &[u8]), EditError>
     ensures { Answers (map_ok (λ x. (x.0, x.1.now)) result) (parameter_at bytes.now) }
 {
-    let (name, rest) = read::<Text>(alloc, bytes)?;
-    let (optional, rest) = read::<bool>(alloc, rest)?;
+    let (name, rest) = read::<Text>(alloc, &(), bytes)?;
+    let (optional, rest) = read::<bool>(alloc, &(), rest)?;
     Ok((Parameter { name, optional }, rest))
 }

@@ -9,7 +9,7 @@ ghost use Rattle.formula_wire.specs.laws.Reading.{corner_at, sheet_at, call_of, 
 use crate::codes::{compare_at, function_at, product_at, sum_at, unary_at};
 use crate::parts::{ConstantPart, ParameterPart};
 use crate::parts_reading::{corner_at, count_at};
-use crate::read::read;
+use base_wire::read;
 use base_decimal::Decimal;
 use base_shared::Shared;
 use base_tables::Error;
@@ -43,7 +43,7 @@ fn node_within(alloc: Global, bytes: &[u8], most: u64) -> Result<(Node, &[u8]), 
 fn level_at(alloc: Global, bytes: &[u8], below: u64) -> Result<(Node, &[u8]), EditError>
     ensures { Answers (map_ok (λ x. (x.0, x.1.now)) result) (node_within (below + 1) bytes.now) }
 {
-    let (tag, rest) = read::<u8>(alloc, bytes)?;
+    let (tag, rest) = read::<u8>(alloc, &(), bytes)?;
     operator_at(alloc, tag, rest, below)
 }
 
@@ -110,7 +110,7 @@ fn call_at(alloc: Global, tag: u8, bytes: &[u8], below: u64) -> Result<(Node, &[
             Ok((Node::Call(function, arguments), rest))
         }
         13 => {
-            let (name, rest) = read::<Text>(alloc, bytes)?;
+            let (name, rest) = read::<Text>(alloc, &(), bytes)?;
             let (arguments, rest) = nodes_at(alloc, rest, below)?;
             Ok((Node::NamedCall(name, arguments), rest))
         }
@@ -119,7 +119,7 @@ fn call_at(alloc: Global, tag: u8, bytes: &[u8], below: u64) -> Result<(Node, &[
             Ok((Node::Spill(operand), rest))
         }
         20 => {
-            let (parameters, rest) = read::<Items<ParameterPart>>(alloc, bytes)?;
+            let (parameters, rest) = read::<Items<ParameterPart>>(alloc, &(), bytes)?;
             let (body, rest) = boxed_at(alloc, rest, below)?;
             Ok((Node::Lambda(parameters, body), rest))
         }
@@ -194,21 +194,21 @@ fn leaf_at(alloc: Global, tag: u8, bytes: &[u8], below: u64) -> Result<(Node, &[
 {
     match tag {
         0 => {
-            let (value, rest) = read::<bool>(alloc, bytes)?;
+            let (value, rest) = read::<bool>(alloc, &(), bytes)?;
             Ok((Node::Boolean(value), rest))
         }
         1 => {
-            let (number, rest) = read::<Decimal>(alloc, bytes)?;
+            let (number, rest) = read::<Decimal>(alloc, &(), bytes)?;
             Ok((Node::Number(number), rest))
         }
         3 => reference_at(alloc, bytes),
         4 => range_at(alloc, bytes, below),
         14 => {
-            let (lines, rest) = read::<Items<Items<ConstantPart>>>(alloc, bytes)?;
+            let (lines, rest) = read::<Items<Items<ConstantPart>>>(alloc, &(), bytes)?;
             Ok((Node::Array(lines), rest))
         }
         16 => {
-            let (error, rest) = read::<Error>(alloc, bytes)?;
+            let (error, rest) = read::<Error>(alloc, &(), bytes)?;
             Ok((Node::Error(error), rest))
         }
         18 => Ok((Node::EmptyArgument, bytes)),
@@ -220,7 +220,7 @@ fn leaf_at(alloc: Global, tag: u8, bytes: &[u8], below: u64) -> Result<(Node, &[
 fn reference_at(alloc: Global, bytes: &[u8]) -> Result<(Node, &[u8]), EditError>
     ensures { Answers (map_ok (λ x. (x.0, x.1.now)) result) (map_at reference_made (sheet_at ⊗ corner_at) bytes.now) }
 {
-    let (sheet, rest) = read::<Option<Shared<Text>>>(alloc, bytes)?;
+    let (sheet, rest) = read::<Option<Shared<Text>>>(alloc, &(), bytes)?;
     let (corner, rest) = corner_at(alloc, rest)?;
     Ok((Node::Reference(sheet, corner), rest))
 }
@@ -233,7 +233,7 @@ fn range_at(alloc: Global, bytes: &[u8], below: u64) -> Result<(Node, &[u8]), Ed
     if below == 0 {
         return Err(EditError::ParseDiffs);
     }
-    let (sheet, rest) = read::<Option<Shared<Text>>>(alloc, bytes)?;
+    let (sheet, rest) = read::<Option<Shared<Text>>>(alloc, &(), bytes)?;
     let (first, rest) = corner_at(alloc, rest)?;
     let (second, rest) = corner_at(alloc, rest)?;
     Ok((Node::Range(sheet, first, second), rest))
@@ -245,15 +245,15 @@ fn text_leaf_at(alloc: Global, tag: u8, bytes: &[u8]) -> Result<(Node, &[u8]), E
 {
     match tag {
         2 => {
-            let (text, rest) = read::<Text>(alloc, bytes)?;
+            let (text, rest) = read::<Text>(alloc, &(), bytes)?;
             Ok((Node::Text(text), rest))
         }
         15 => {
-            let (name, rest) = read::<Text>(alloc, bytes)?;
+            let (name, rest) = read::<Text>(alloc, &(), bytes)?;
             Ok((Node::Name(name), rest))
         }
         17 => {
-            let (text, rest) = read::<Text>(alloc, bytes)?;
+            let (text, rest) = read::<Text>(alloc, &(), bytes)?;
             Ok((Node::ParseError(text), rest))
         }
         _ => Err(EditError::ParseDiffs),

@@ -11,10 +11,9 @@ ghost use Rattle.cell_wire.specs.CellBytes.{encode_position};
 ghost use Rattle.map_wire.specs.MapBytes.{encode_map, FitsMap};
 ghost use Rattle.grid_wire.specs.laws.Reading.{axis_line_at, axis_map_at, place_at, place_map_at};
 
-use crate::steps::read;
 use base_axis::{Axis, AxisMap, LineKeys};
 use base_values::{EditError, PlaceKeys, PlaceMap, Position, is_line, is_place};
-use base_wire::Part;
+use base_wire::{Part, read};
 use cell_wire::PositionPart;
 use map_wire::{map_at, put_map};
 use std::alloc::{AllocError, Global};

@@ -11,7 +11,6 @@ mod names;
 mod reading_sheets;
 mod sheets;
 mod states;
-mod steps;
 mod writing_sheets;
 
 pub use lines::LinePart;

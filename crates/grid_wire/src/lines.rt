@@ -3,11 +3,10 @@
 ghost use Rattle.base_values.specs.Answers.{Answers, map_ok};
 ghost use Rattle.grid_wire.specs.laws.Reading.{line_at};
 
-use crate::steps::read;
 use base_shared::Shared;
 use base_styles::Style;
 use base_values::EditError;
-use base_wire::Part;
+use base_wire::{Part, read};
 use cell_wire::StylePart;
 use sheet_grid::LineAttr;
 use std::alloc::{AllocError, Global};

@@ -3,10 +3,9 @@
 ghost use Rattle.base_values.specs.Answers.{Answers, map_ok};
 ghost use Rattle.grid_wire.specs.laws.Reading.{name_at};
 
-use crate::steps::read;
 use base_shared::Shared;
 use base_values::{EditError, Text};
-use base_wire::Part;
+use base_wire::{Part, read};
 use defined_names::DefinedName;
 use formula_wire::NodePart;
 use std::alloc::{AllocError, Global};

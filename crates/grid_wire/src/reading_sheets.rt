@@ -11,7 +11,7 @@ ghost use Rattle.grid_wire.specs.laws.Reading.{cells_at, columns_at, fields_at, 
 use crate::keys::{axis_map_at, place_map_at};
 use crate::lines::LinePart;
 use crate::states::StatePart;
-use crate::steps::read;
+use base_wire::read;
 use base_axis::{AxisMap, ColumnAxis, MergeList, RowAxis};
 use base_shared::Shared;
 use base_styles::Style;

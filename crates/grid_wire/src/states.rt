@@ -7,9 +7,8 @@ ghost use Rattle.base_wire.specs.laws.Reading.{code_at, decoded};
 ghost use Rattle.grid_wire.specs.StateBytes.{state_code};
 ghost use Rattle.grid_wire.specs.laws.Reading.{states};
 
-use crate::steps::read;
 use base_values::EditError;
-use base_wire::Part;
+use base_wire::{Part, read};
 use sheet_grid::SheetState;
 use std::alloc::{AllocError, Global};
 

@@ -6,9 +6,8 @@ ghost use Rattle.base_values.specs.Answers.{Answers, map_ok};
 ghost use Rattle.lines_wire.specs.EditBytes.{encode_block, encode_edit, encode_number, FitsBlock, FitsEdit};
 ghost use Rattle.lines_wire.specs.laws.LinesReading.{block_at, edit_at};
 
-use crate::steps::read;
 use base_values::EditError;
-use base_wire::Part;
+use base_wire::{Part, read};
 use line_map::EditKind;
 use std::alloc::{AllocError, Global};
 

@@ -7,14 +7,13 @@ ghost use Rattle.cell_wire.specs.MergeBytes.{encode_merges, FitsMerges};
 ghost use Rattle.lines_wire.specs.KeptBytes.{encode_kept, FitsKept, IsKnownKept};
 ghost use Rattle.lines_wire.specs.laws.LinesReading.{kept_at};
 
-use crate::steps::read;
 use crate::values::SheetPlacePart;
 use base_axis::MergeList;
 use base_maps::{IndexKeys, NumberKeys, PositionKeys, SheetPlaceKeys};
 use base_shared::Shared;
 use base_styles::Style;
 use base_values::EditError;
-use base_wire::Part;
+use base_wire::{Part, read};
 use cell_wire::{CellPart, LinkPart, MergeListPart, PositionPart};
 use format_rules::ConditionalFormatting;
 use formula_tree::Node;

@@ -7,7 +7,6 @@
 
 mod edits;
 mod kept_lines;
-mod steps;
 mod values;
 
 pub use edits::EditPart;

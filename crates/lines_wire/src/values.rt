@@ -3,10 +3,9 @@
 ghost use Rattle.base_values.specs.Answers.{Answers, map_ok};
 ghost use Rattle.lines_wire.specs.laws.LinesReading.{sheet_index_at, sheet_place_at};
 
-use crate::steps::read;
 use base_maps::{SheetIndex, SheetPlace};
 use base_values::EditError;
-use base_wire::Part;
+use base_wire::{Part, read};
 use cell_wire::PositionPart;
 use std::alloc::{AllocError, Global};
 

@@ -3,9 +3,8 @@
 ghost use Rattle.base_values.specs.Answers.{Answers, map_ok};
 ghost use Rattle.base_wire.specs.laws.Reading.{◌⊗◌};
 
-use crate::reading::read;
 use base_values::EditError;
-use base_wire::Part;
+use base_wire::{Part, read};
 use std::alloc::{AllocError, Global};
 use std::marker::PhantomData;
 

@@ -12,19 +12,8 @@ ghost use Rattle.map_wire.specs.laws.MapReading.{entries_at, map_of_at};
 
 use crate::entries::EntryPart;
 use base_values::{EditError, Items, KeyMap, MapKey};
-use base_wire::Part;
+use base_wire::{Part, read};
 use std::alloc::Global;
-
-/// What `take` answers, by the steps of the reader.
-pub(crate) fn read<'a, P: Part>(
-    alloc: Global,
-    context: &P::Context,
-    bytes: &'a [u8],
-) -> Result<(P::Value, &'a [u8]), EditError>
-    ensures { Answers (map_ok (λ x. (x.0, x.1.now)) result) (P.reading bytes.now) }
-{
-    P::take(alloc, context, bytes)
-}
 
 /// Whether the keys of entries rise strictly.
 fn ascends<X: MapKey<V>, V>(entries: &[(X::Key, V)]) -> bool

@@ -3,10 +3,9 @@
 ghost use Rattle.base_values.specs.Answers.{Answers, map_ok};
 ghost use Rattle.cell_wire.specs.laws.CellReading.{merge_at};
 
-use crate::steps::read;
 use base_axis::MergedCell;
 use base_values::EditError;
-use base_wire::Part;
+use base_wire::{Part, read};
 use std::alloc::{AllocError, Global};
 
 #[tactic(auto, unfolding(cell_wire::specs::laws::CellReading::merge_at))]

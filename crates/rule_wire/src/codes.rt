@@ -7,7 +7,7 @@ ghost use Rattle.base_wire.specs.laws.Reading.{decoded};
 ghost use Rattle.rule_wire.specs.RuleBytes.{operator_code};
 ghost use Rattle.rule_wire.specs.laws.RuleReading.{operator_at, operators};
 
-use crate::steps::read;
+use base_wire::read;
 use base_values::EditError;
 use format_rules::CfOperator;
 use std::alloc::Global;

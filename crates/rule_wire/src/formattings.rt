@@ -7,12 +7,11 @@ ghost use Rattle.rule_wire.specs.laws.RuleReading.{formatting_at};
 
 use crate::areas::AreaPart;
 use crate::rules::RulePart;
-use crate::steps::read;
 use base_axis::MergedCell;
 use base_shared::Shared;
 use base_styles::Style;
 use base_values::{EditError, Items};
-use base_wire::{Part, put_items};
+use base_wire::{Part, put_items, read};
 use format_rules::{ConditionalFormatting, RuleList};
 use std::alloc::{AllocError, Global};
 

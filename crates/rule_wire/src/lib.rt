@@ -12,7 +12,6 @@ mod encode;
 mod formattings;
 mod reading;
 mod rules;
-mod steps;
 mod thresholds;
 mod writing;
 

@@ -4,8 +4,8 @@ ghost use Rattle.base_values.specs.Answers.{Answers, map_ok};
 ghost use Rattle.rule_wire.specs.laws.RuleReading.{cell_is_at, data_bar_at, formula_at, icon_rating_at, icon_set_at, rule_at};
 
 use crate::codes::operator_at;
-use crate::steps::read;
 use crate::thresholds::{CfvoPart, ColorThresholdPart, IconThresholdPart};
+use base_wire::read;
 use base_shared::Shared;
 use base_styles::Style;
 use base_values::{EditError, Items};

@@ -5,11 +5,10 @@ ghost use Rattle.base_values.specs.Answers.{Answers, map_ok};
 ghost use Rattle.rule_wire.specs.ThresholdBytes.{encode_cfvo, FitsCfvo, IsKnownCfvo};
 ghost use Rattle.rule_wire.specs.laws.RuleReading.{cfvo_at, color_threshold_at, icon_threshold_at};
 
-use crate::steps::read;
 use base_decimal::Decimal;
 use base_shared::Shared;
 use base_values::EditError;
-use base_wire::Part;
+use base_wire::{Part, read};
 use cell_wire::ColorPart;
 use format_rules::{Cfvo, ColorThreshold, IconThreshold};
 use formula_wire::NodePart;

@@ -4,7 +4,6 @@
 
 mod parts;
 mod reading;
-mod steps;
 mod writing;
 
 pub use parts::{LocalePart, ThemePart, ZonePart};

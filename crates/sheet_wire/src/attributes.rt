@@ -7,11 +7,10 @@ ghost use Rattle.sheet_history.specs.Entries.{line_tag};
 ghost use Rattle.sheet_wire.specs.AttrBytes.{encode_attr_change, FitsAttrChange};
 ghost use Rattle.sheet_wire.specs.laws.Reading.{attr_diff_at};
 
-use crate::steps::read;
 use base_shared::Shared;
 use base_styles::Style;
 use base_values::EditError;
-use base_wire::Part;
+use base_wire::{Part, read};
 use grid_wire::LinePart;
 use sheet_grid::LineAttr;
 use sheet_history::{Diff, LineAxis};

@@ -19,11 +19,10 @@ use crate::decode_sheets::{
 use crate::parts::{DiffPart, EntryPart};
 use crate::rule_changes::rule_diff_at;
 use crate::settings::{locale_diff_at, theme_diff_at, title_diff_at, zone_diff_at};
-use crate::steps::read;
 use base_shared::Shared;
 use base_styles::Style;
 use base_values::{EditError, Items, Position};
-use base_wire::Part;
+use base_wire::{Part, read};
 use cell_wire::{CellPart, LinkPart, MergeListPart, PositionPart};
 use lines_wire::{EditPart, KeptLinesPart};
 use sheet_history::{Diff, DiffType, LineAxis, QueueDiffs};

@@ -4,12 +4,11 @@ ghost use Rattle.base_values.specs.Answers.{Answers, map_ok};
 ghost use Rattle.sheet_wire.specs.laws.Reading.{sheet_change_at, color_diff_at, copy_diff_at, deletion_diff_at, grid_diff_at, move_diff_at, name_diff_at, new_diff_at, rename_diff_at, state_diff_at, frozen_columns_diff_at, frozen_rows_diff_at};
 
 use crate::sheets::KeptSheetPart;
-use crate::steps::read;
 use crate::trees::KeptTreesPart;
 use base_shared::Shared;
 use base_styles::Style;
 use base_values::{EditError, Text};
-use base_wire::Part;
+use base_wire::{Part, read};
 use cell_wire::ColorPart;
 use grid_wire::{NamePart, StatePart};
 use name_edits::NameChange;

@@ -16,7 +16,6 @@ mod parts;
 mod rule_changes;
 mod settings;
 mod sheets;
-mod steps;
 mod trees;
 
 pub use decode::decode_queue;

@@ -5,11 +5,10 @@ ghost use Rattle.base_values.specs.Answers.{Answers, map_ok};
 ghost use Rattle.sheet_wire.specs.laws.Reading.{rule_diff_at, rule_change_at};
 ghost use Rattle.sheet_wire.specs.RulesBytes.{encode_rule, encode_rule_change, FitsRuleChange, FitsRuleDiff, IsKnownRuleChange};
 
-use crate::steps::read;
 use base_shared::Shared;
 use base_styles::Style;
 use base_values::EditError;
-use base_wire::Part;
+use base_wire::{Part, read};
 use rule_edits::RuleChange;
 use rule_wire::FormattingPart;
 use sheet_history::Diff;

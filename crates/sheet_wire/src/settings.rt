@@ -7,9 +7,8 @@ ghost use Rattle.sheet_wire.specs.QueueBytes.{encode_diff};
 ghost use Rattle.sheet_wire.specs.laws.Reading.{locale_diff_at, theme_diff_at, title_diff_at, zone_diff_at, pair_at};
 ghost use Rattle.sheet_wire.specs.SettingBytes.{encode_twice, FitsSetting};
 
-use crate::steps::read;
 use base_values::{EditError, Text};
-use base_wire::Part;
+use base_wire::{Part, read};
 use setting_wire::{LocalePart, ThemePart, ZonePart};
 use sheet_history::{Diff, SettingChange};
 use std::alloc::{AllocError, Global};

@@ -5,12 +5,11 @@ ghost use Rattle.base_values.specs.Answers.{Answers, map_ok};
 ghost use Rattle.sheet_wire.specs.SheetsBytes.{encode_kept_sheet, FitsKeptSheet, IsKnownKeptSheet};
 ghost use Rattle.sheet_wire.specs.laws.Reading.{kept_sheet_at};
 
-use crate::steps::read;
 use base_maps::IndexKeys;
 use base_shared::Shared;
 use base_styles::Style;
 use base_values::EditError;
-use base_wire::Part;
+use base_wire::{Part, read};
 use book_sheets::KeptSheet;
 use defined_names::DefinedName;
 use grid_wire::{NamePart, SheetPart};

@@ -5,12 +5,11 @@ ghost use Rattle.base_values.specs.Answers.{Answers, map_ok};
 ghost use Rattle.sheet_wire.specs.TreesBytes.{encode_trees, AreKnownTrees, FitsTrees};
 ghost use Rattle.sheet_wire.specs.laws.Reading.{trees_at};
 
-use crate::steps::read;
 use base_maps::{IndexKeys, SheetIndexKeys};
 use base_shared::Shared;
 use base_styles::Style;
 use base_values::EditError;
-use base_wire::Part;
+use base_wire::{Part, read};
 use book_names::KeptTrees;
 use format_rules::ConditionalFormatting;
 use formula_tree::Node;

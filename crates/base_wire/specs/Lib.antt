@@ -1,3 +1,4 @@
+pub mod MapBytes
 pub mod Reads
 pub mod Encoding
 pub mod Parts

@@ -1,3 +1,8 @@
+pub mod MapReading
+pub mod Ascending
+pub mod KeyOrder
+pub mod MapFits
+pub mod MapLaws
 pub mod Reading
 pub mod Again
 pub mod Sixteen

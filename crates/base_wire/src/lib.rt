@@ -9,8 +9,13 @@
 #![tactic(auto)]
 
 mod codes;
+mod entries;
 mod many;
+mod map_reading;
+mod map_writing;
+mod maps;
 mod part;
+mod plain_key;
 mod reading;
 mod shared;
 mod values;
@@ -18,4 +23,8 @@ mod writing;
 
 pub use codes::boolean_code;
 pub use many::put_items;
+pub use map_reading::map_at;
+pub use map_writing::put_map;
+pub use maps::MapPart;
 pub use part::{Part, read};
+pub use plain_key::PlainKey;

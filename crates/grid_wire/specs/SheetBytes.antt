@@ -6,7 +6,7 @@ use Rattle.base_values.specs.declared.Position.{Position}
 use Rattle.base_values.specs.Places.{IsPlace, IsRow, IsColumn}
 use Rattle.sheet_grid.specs.Sheet.{Sheet}
 use Rattle.base_wire.specs.Encoding.{encode_signed, encode_code, boolean_code, encode_text, FitsText}
-use Rattle.map_wire.specs.MapBytes.{encode_map, FitsMap}
+use Rattle.base_wire.specs.MapBytes.{encode_map, FitsMap}
 use Rattle.cell_wire.specs.StyleBytes.{encode_color, FitsColor}
 use Rattle.cell_wire.specs.CellBytes.{encode_position, encode_cell, FitsCell, IsKnownCell}
 use Rattle.cell_wire.specs.LinkBytes.{encode_link, FitsLink}

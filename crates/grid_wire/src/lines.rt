@@ -55,7 +55,7 @@ impl Part for LinePart {
 
     ghost reading = { line_at };
 
-    #[tactic(auto, using(map_wire::specs::laws::MapFits::any_option))]
+    #[tactic(auto, using(base_wire::specs::laws::MapFits::any_option))]
     fn put(out: &mut Vec<u8>, value: &LineAttr) -> Result<(), AllocError> {
         Option::<i32>::put(out, &value.size)?;
         Option::<StylePart>::put(out, &value.style)?;

@@ -46,7 +46,7 @@ impl Part for NamePart {
 
     ghost reading = { name_at };
 
-    #[tactic(auto, using(map_wire::specs::laws::MapFits::any_option), unfolding(crate::specs::NameBytes::encode_name))]
+    #[tactic(auto, using(base_wire::specs::laws::MapFits::any_option), unfolding(crate::specs::NameBytes::encode_name))]
     fn put(out: &mut Vec<u8>, value: &DefinedName) -> Result<(), AllocError> {
         Text::put(out, &value.name)?;
         Option::<u32>::put(out, &value.scope)?;

@@ -62,7 +62,7 @@ fn put_fields(out: &mut Vec<u8>, sheet: &Worksheet) -> Result<(), AllocError>
 }
 
 /// Adds rows, columns, cells, links, merges and conditional rules.
-#[tactic(auto, using(map_wire::specs::laws::MapFits::any_option), unfolding(crate::specs::SheetBytes::encode_entries))]
+#[tactic(auto, using(base_wire::specs::laws::MapFits::any_option), unfolding(crate::specs::SheetBytes::encode_entries))]
 fn put_entries(out: &mut Vec<u8>, sheet: &Worksheet) -> Result<(), AllocError>
     ensures encoded { OnOk result (out.new.items ≡ out.old.items ++ encode_entries sheet.now) }
     ensures fits { OnOk result (IsKnownSheet sheet.now → FitsEntries sheet.now) }

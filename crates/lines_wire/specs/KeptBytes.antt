@@ -12,7 +12,7 @@ use Rattle.formula_wire.specs.Carried.{FitsNode, IsKnownNode}
 use Rattle.cell_wire.specs.CellBytes.{encode_position, FitsPosition, encode_cell, FitsCell, IsKnownCell}
 use Rattle.cell_wire.specs.LinkBytes.{encode_link, FitsLink}
 use Rattle.cell_wire.specs.MergeBytes.{encode_merges, FitsMerges}
-use Rattle.map_wire.specs.MapBytes.{encode_map, FitsMap}
+use Rattle.base_wire.specs.MapBytes.{encode_map, FitsMap}
 use Rattle.rule_wire.specs.FormattingBytes.{encode_formatting, FitsFormatting, IsKnownFormatting}
 use Rattle.grid_wire.specs.LineBytes.{encode_line, FitsLine}
 use Rattle.lines_wire.specs.PartBytes.{encode_sheet_place, FitsSheetPlace}

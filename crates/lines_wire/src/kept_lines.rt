@@ -19,7 +19,7 @@ use format_rules::ConditionalFormatting;
 use formula_tree::Node;
 use formula_wire::NodePart;
 use grid_wire::LinePart;
-use map_wire::MapPart;
+use base_wire::MapPart;
 use rule_wire::FormattingPart;
 use sheet_grid::{Cell, LineAttr, Link};
 use sheet_lines::KeptLines;
@@ -36,7 +36,7 @@ type RulesPart = MapPart<IndexKeys<ConditionalFormatting>, u64, FormattingPart>;
 /// The trees of formulas, by the ids of their sheets and their positions.
 pub type FormulasPart = MapPart<SheetPlaceKeys<Shared<Node>>, SheetPlacePart, Shared<NodePart>>;
 
-#[tactic(auto, using(map_wire::specs::laws::MapFits::any_option))]
+#[tactic(auto, using(base_wire::specs::laws::MapFits::any_option))]
 fn put_kept_merges(out: &mut Vec<u8>, merges: &Option<MergeList>) -> Result<(), AllocError>
     ensures encoded { OnOk result (out.new.items ≡ out.old.items ++ encode_option encode_merges merges.now) }
     ensures fits { OnOk result (IfSome merges.now FitsMerges) }

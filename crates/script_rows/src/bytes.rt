@@ -9,7 +9,7 @@ use base_values::{EditError, Text};
 use base_wire::Part;
 use grid_wire::{NamePart, SheetPart};
 use lines_wire::{EditPart, KeptLinesPart};
-use map_wire::MapPart;
+use base_wire::MapPart;
 use rule_wire::RulePart;
 use script_dump::{push_hex, push_line};
 use sheet_wire::{DiffPart, decode_queue};

@@ -9,7 +9,7 @@ use Rattle.name_edits.specs.declared.NameChange.{NameChange}
 use Rattle.base_wire.specs.Encoding.{encode_option, encode_text, FitsText}
 use Rattle.formula_wire.specs.NodeBytes.{encode_node}
 use Rattle.formula_wire.specs.Carried.{FitsNode, IsKnownNode}
-use Rattle.map_wire.specs.MapBytes.{encode_map, FitsMap}
+use Rattle.base_wire.specs.MapBytes.{encode_map, FitsMap}
 use Rattle.grid_wire.specs.NameBytes.{encode_name, FitsName, IsKnownName}
 use Rattle.rule_wire.specs.FormattingBytes.{encode_formatting, FitsFormatting, IsKnownFormatting}
 use Rattle.lines_wire.specs.PartBytes.{encode_sheet_place, FitsSheetPlace, encode_sheet_index, FitsSheetIndex}

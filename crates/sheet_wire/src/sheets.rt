@@ -13,7 +13,7 @@ use base_wire::{Part, read};
 use book_sheets::KeptSheet;
 use defined_names::DefinedName;
 use grid_wire::{NamePart, SheetPart};
-use map_wire::MapPart;
+use base_wire::MapPart;
 use std::alloc::{AllocError, Global};
 
 type PlacedNamesPart = MapPart<IndexKeys<DefinedName>, u64, NamePart>;

@@ -15,7 +15,7 @@ use format_rules::ConditionalFormatting;
 use formula_tree::Node;
 use formula_wire::NodePart;
 use lines_wire::{FormulasPart, SheetIndexPart};
-use map_wire::MapPart;
+use base_wire::MapPart;
 use rule_wire::FormattingPart;
 use std::alloc::{AllocError, Global};
 

@@ -8,8 +8,8 @@ use Rattle.sheet_grid.specs.CanonicalCell.{CanonicalCells}
 use Rattle.formula_wire.specs.laws.CanonicalLaws.{canonical_from_carried}
 use Rattle.cell_wire.specs.CellBytes.{FitsCell}
 use Rattle.cell_wire.specs.laws.Fitting.{canonical_cell_from_fits}
-use Rattle.map_wire.specs.MapBytes.{FitsMap}
-use Rattle.map_wire.specs.laws.MapFits.{values_hold}
+use Rattle.base_wire.specs.MapBytes.{FitsMap}
+use Rattle.base_wire.specs.laws.MapFits.{values_hold}
 use Rattle.grid_wire.specs.NameBytes.{FitsName}
 
 pub canonical_name_from_fits : (name : DefinedName) → FitsName name → IsCanonicalName name

@@ -18,8 +18,8 @@ use Rattle.base_wire.specs.laws.Parts.{signed_format}
 use Rattle.base_wire.specs.laws.Encoded.{fits_otherwise}
 use Rattle.cell_wire.specs.CellBytes.{encode_position, FitsPosition}
 use Rattle.cell_wire.specs.laws.CellFormats.{position_format, position_some}
-use Rattle.map_wire.specs.MapBytes.{encode_map, FitsMap}
-use Rattle.map_wire.specs.laws.MapLaws.{map_format}
+use Rattle.base_wire.specs.MapBytes.{encode_map, FitsMap}
+use Rattle.base_wire.specs.laws.MapLaws.{map_format}
 use Rattle.grid_wire.specs.laws.Reading.{place_at, axis_line_at, place_map_at, axis_map_at}
 
 -- what fits in one way fits in another, and the other way round

@@ -8,7 +8,7 @@ use Rattle.base_wire.specs.Encoding.{encode_signed}
 use Rattle.base_wire.specs.laws.Format.{Format}
 use Rattle.base_wire.specs.laws.Formats.{both_format, made_format}
 use Rattle.base_wire.specs.laws.Parts.{boolean_format, short_format, signed_format, text_format}
-use Rattle.map_wire.specs.MapBytes.{encode_map, FitsMap}
+use Rattle.base_wire.specs.MapBytes.{encode_map, FitsMap}
 use Rattle.cell_wire.specs.CellBytes.{encode_position, encode_cell, FitsCell}
 use Rattle.cell_wire.specs.LinkBytes.{encode_link, FitsLink}
 use Rattle.cell_wire.specs.laws.CellFormats.{color_format, cell_format}

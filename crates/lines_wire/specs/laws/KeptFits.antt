@@ -14,8 +14,8 @@ use Rattle.cell_wire.specs.laws.Fitting.{canonical_cell_from_fits}
 use Rattle.rule_wire.specs.FormattingBytes.{FitsFormatting}
 use Rattle.rule_wire.specs.laws.KnownLaws.{canonical_from_fits}
 use Rattle.lines_wire.specs.PartBytes.{FitsSheetPlace}
-use Rattle.map_wire.specs.MapBytes.{FitsMap}
-use Rattle.map_wire.specs.laws.MapFits.{values_hold}
+use Rattle.base_wire.specs.MapBytes.{FitsMap}
+use Rattle.base_wire.specs.laws.MapFits.{values_hold}
 use Rattle.lines_wire.specs.KeptBytes.{FitsKept}
 
 -- the numbers of trees that bytes can carry are canonical

@@ -22,10 +22,10 @@ use Rattle.cell_wire.specs.laws.CellFormats.{position_format, position_some, cel
 use Rattle.cell_wire.specs.LinkBytes.{encode_link, FitsLink}
 use Rattle.cell_wire.specs.MergeBytes.{encode_merges, FitsMerges}
 use Rattle.cell_wire.specs.laws.MergeLaws.{link_format, merges_format}
-use Rattle.map_wire.specs.MapBytes.{encode_map, FitsMap}
+use Rattle.base_wire.specs.MapBytes.{encode_map, FitsMap}
 use Rattle.grid_wire.specs.LineBytes.{encode_line, FitsLine}
 use Rattle.lines_wire.specs.PartBytes.{encode_sheet_place, FitsSheetPlace}
-use Rattle.map_wire.specs.laws.MapLaws.{map_format}
+use Rattle.base_wire.specs.laws.MapLaws.{map_format}
 use Rattle.rule_wire.specs.FormattingBytes.{encode_formatting, FitsFormatting}
 use Rattle.rule_wire.specs.laws.FormattingLaws.{formatting_format}
 use Rattle.grid_wire.specs.laws.LineLaws.{line_format}

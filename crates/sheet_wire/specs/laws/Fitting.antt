@@ -34,7 +34,7 @@ use Rattle.rule_wire.specs.FormattingBytes.{FitsFormatting, IsKnownFormatting, A
 use Rattle.rule_wire.specs.laws.KnownLaws.{canonical_rules_from_fit, rule_known}
 use Rattle.lines_wire.specs.PartBytes.{FitsSheetIndex}
 use Rattle.lines_wire.specs.laws.KeptFits.{canonical_formatting_from_fits, formulas_from_fits, kept_lines_from_fits}
-use Rattle.map_wire.specs.laws.MapFits.{values_hold}
+use Rattle.base_wire.specs.laws.MapFits.{values_hold}
 use Rattle.grid_wire.specs.NameBytes.{FitsName, IsKnownName}
 use Rattle.grid_wire.specs.laws.GridFits.{canonical_cells_from_fits, canonical_name_from_fits}
 use Rattle.sheet_wire.specs.SheetsBytes.{FitsKeptSheet, IsKnownKeptSheet}

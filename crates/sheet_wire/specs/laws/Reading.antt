@@ -23,7 +23,7 @@ use Rattle.formula_tree.specs.declared.Node.{Node}
 use Rattle.defined_names.specs.declared.DefinedName.{DefinedName}
 use Rattle.book_names.specs.declared.KeptTrees.{KeptTrees}
 use Rattle.formula_wire.specs.laws.Reading.{node_at}
-use Rattle.map_wire.specs.laws.MapReading.{map_of_at}
+use Rattle.base_wire.specs.laws.MapReading.{map_of_at}
 use Rattle.base_styles.specs.declared.Color.{Color}
 use Rattle.sheet_grid.specs.Sheet.{Sheet}
 use Rattle.sheet_grid.specs.declared.SheetState.{SheetState}

@@ -11,8 +11,8 @@ use Rattle.base_wire.specs.Encoding.{Any, Both, encode_both, encode_code, encode
 use Rattle.base_wire.specs.laws.Format.{Format}
 use Rattle.base_wire.specs.laws.Formats.{both_format, made_format}
 use Rattle.base_wire.specs.laws.Parts.{long_format, short_format, text_format}
-use Rattle.map_wire.specs.MapBytes.{encode_map, FitsMap}
-use Rattle.map_wire.specs.laws.MapLaws.{map_format}
+use Rattle.base_wire.specs.MapBytes.{encode_map, FitsMap}
+use Rattle.base_wire.specs.laws.MapLaws.{map_format}
 use Rattle.grid_wire.specs.StateBytes.{state_code}
 use Rattle.grid_wire.specs.NameBytes.{encode_name, FitsName}
 use Rattle.grid_wire.specs.SheetBytes.{encode_sheet}

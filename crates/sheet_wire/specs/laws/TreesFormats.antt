@@ -15,8 +15,8 @@ use Rattle.base_wire.specs.laws.Parts.{long_format, short_format, text_format}
 use Rattle.formula_wire.specs.NodeBytes.{encode_node}
 use Rattle.formula_wire.specs.Carried.{FitsNode}
 use Rattle.formula_wire.specs.laws.NodeLaws.{node_format}
-use Rattle.map_wire.specs.MapBytes.{encode_map, FitsMap}
-use Rattle.map_wire.specs.laws.MapLaws.{map_format}
+use Rattle.base_wire.specs.MapBytes.{encode_map, FitsMap}
+use Rattle.base_wire.specs.laws.MapLaws.{map_format}
 use Rattle.grid_wire.specs.NameBytes.{encode_name, FitsName}
 use Rattle.grid_wire.specs.laws.NameLaws.{name_format}
 use Rattle.rule_wire.specs.FormattingBytes.{encode_formatting, FitsFormatting}

@@ -1,6 +1,6 @@
 use Rattle.std.proofs.Common.{arith}
 use Rattle.base_wire.specs.laws.Format.{reads}
-use Rattle.map_wire.specs.laws.MapFits.{of_answer}
+use Rattle.base_wire.specs.laws.MapFits.{of_answer}
 use Rattle.grid_wire.specs.laws.GridFits.{canonical_cells_from_fits}
 use Rattle.grid_wire.specs.laws.SheetLaws.{cells_format}
 use Rattle.grid_wire.proofs.reading_sheets.kept_cells_at.Goals as goal

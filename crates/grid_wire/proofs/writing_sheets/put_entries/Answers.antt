@@ -13,8 +13,8 @@ use Rattle.sheet_grid.specs.declared.Link.{Link}
 use Rattle.cell_wire.specs.CellBytes.{FitsCell, IsKnownCell}
 use Rattle.cell_wire.specs.LinkBytes.{FitsLink}
 use Rattle.cell_wire.specs.MergeBytes.{FitsMerges}
-use Rattle.map_wire.specs.MapBytes.{FitsMap}
-use Rattle.map_wire.specs.laws.MapFits.{any_option}
+use Rattle.base_wire.specs.MapBytes.{FitsMap}
+use Rattle.base_wire.specs.laws.MapFits.{any_option}
 use Rattle.grid_wire.specs.LineBytes.{FitsLine, IsKnownLine}
 use Rattle.grid_wire.proofs.writing_sheets.put_entries.Goals as goal
 

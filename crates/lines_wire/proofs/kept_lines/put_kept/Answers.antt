@@ -1,4 +1,4 @@
-use Rattle.map_wire.specs.laws.MapFits.{any_option}
+use Rattle.base_wire.specs.laws.MapFits.{any_option}
 use Rattle.lines_wire.proofs.kept_lines.put_kept.Goals as goal
 
 pub returns-clause-fits : goal.returns-clause-fits

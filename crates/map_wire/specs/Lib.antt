@@ -1,2 +1,0 @@
-pub mod MapBytes
-pub mod laws

@@ -1,5 +1,0 @@
-pub mod MapReading
-pub mod Ascending
-pub mod KeyOrder
-pub mod MapFits
-pub mod MapLaws

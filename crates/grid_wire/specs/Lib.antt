@@ -1,3 +1,5 @@
+pub mod ThemeBytes
+pub mod TableBytes
 pub mod StateBytes
 pub mod LineBytes
 pub mod NameBytes

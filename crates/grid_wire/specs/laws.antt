@@ -1,3 +1,5 @@
+pub mod SettingReading
+pub mod SettingFormats
 pub mod Reading
 pub mod StateLaws
 pub mod GridFits

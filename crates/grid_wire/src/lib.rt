@@ -8,12 +8,16 @@
 mod keys;
 mod lines;
 mod names;
+mod reading_settings;
 mod reading_sheets;
+mod setting_parts;
 mod sheets;
 mod states;
+mod writing_settings;
 mod writing_sheets;
 
 pub use lines::LinePart;
 pub use names::NamePart;
+pub use setting_parts::{LocalePart, ThemePart, ZonePart};
 pub use sheets::SheetPart;
 pub use states::StatePart;

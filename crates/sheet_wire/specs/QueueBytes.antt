@@ -10,8 +10,8 @@ use Rattle.sheet_history.specs.declared.DiffType.{DiffType}
 use Rattle.sheet_history.specs.declared.DiffType.TheVariants.{Undo, Redo}
 use Rattle.sheet_history.specs.declared.QueueDiffs.{QueueDiffs}
 use Rattle.base_wire.specs.Encoding.{encode_code, encode_list, encode_text, FitsItems}
-use Rattle.setting_wire.specs.TableBytes.{encode_locale, encode_zone}
-use Rattle.setting_wire.specs.ThemeBytes.{encode_theme}
+use Rattle.grid_wire.specs.TableBytes.{encode_locale, encode_zone}
+use Rattle.grid_wire.specs.ThemeBytes.{encode_theme}
 use Rattle.cell_wire.specs.CellBytes.{encode_cell, FitsCell, IsKnownCell}
 use Rattle.cell_wire.specs.LinkBytes.{encode_link, FitsLink}
 use Rattle.cell_wire.specs.MergeBytes.{encode_merges, FitsMerges}

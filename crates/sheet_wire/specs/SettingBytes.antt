@@ -1,7 +1,7 @@
 -- The bytes of changes of the settings of a workbook.
 use Rattle.std.specs.Prelude.{List, ℕ, ◌++◌}
 use Rattle.base_wire.specs.Encoding.{FitsText}
-use Rattle.setting_wire.specs.ThemeBytes.{FitsTheme}
+use Rattle.grid_wire.specs.ThemeBytes.{FitsTheme}
 use Rattle.sheet_history.specs.declared.SettingChange.{SettingChange}
 use Rattle.sheet_history.specs.declared.SettingChange.TheVariants as setting
 

@@ -9,7 +9,7 @@ ghost use Rattle.sheet_wire.specs.SettingBytes.{encode_twice, FitsSetting};
 
 use base_values::{EditError, Text};
 use base_wire::{Part, read};
-use setting_wire::{LocalePart, ThemePart, ZonePart};
+use grid_wire::{LocalePart, ThemePart, ZonePart};
 use sheet_history::{Diff, SettingChange};
 use std::alloc::{AllocError, Global};
 

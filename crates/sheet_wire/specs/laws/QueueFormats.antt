@@ -40,10 +40,10 @@ use Rattle.sheet_wire.specs.laws.TreesFormats.{rename_parts_format, name_parts_f
 use Rattle.sheet_wire.specs.AttrBytes.{encode_attr_change}
 use Rattle.sheet_wire.specs.laws.AttrFormats.{attr_parts_format}
 use Rattle.sheet_wire.specs.laws.SheetsFormats.{sheet_change_format, sheet_state_format, new_parts_format, copy_parts_format, deletion_parts_format, move_parts_format}
-use Rattle.setting_wire.specs.TableBytes.{encode_locale, encode_zone}
-use Rattle.setting_wire.specs.laws.SettingReading.{locale_at, zone_at, theme_at}
-use Rattle.setting_wire.specs.ThemeBytes.{encode_theme}
-use Rattle.setting_wire.specs.laws.SettingFormats.{locale_format, theme_format, zone_format}
+use Rattle.grid_wire.specs.TableBytes.{encode_locale, encode_zone}
+use Rattle.grid_wire.specs.laws.SettingReading.{locale_at, zone_at, theme_at}
+use Rattle.grid_wire.specs.ThemeBytes.{encode_theme}
+use Rattle.grid_wire.specs.laws.SettingFormats.{locale_format, theme_format, zone_format}
 use Rattle.sheet_wire.specs.SettingBytes.{encode_twice}
 use Rattle.sheet_wire.specs.laws.SettingFormats.{twice_format}
 use Rattle.sheet_wire.specs.QueueBytes.{encode_diff, FitsDiff, FitsList, direction_code, encode_entry, FitsEntry, magic, FitsQueue}

@@ -42,7 +42,7 @@ use Rattle.sheet_history.specs.declared.Diff.TheVariants.{Cell as CellDiff, Link
 use Rattle.sheet_history.specs.declared.DiffType.{DiffType}
 use Rattle.sheet_history.specs.declared.DiffType.TheVariants.{Undo, Redo}
 use Rattle.sheet_history.specs.declared.QueueDiffs.{QueueDiffs}
-use Rattle.setting_wire.specs.laws.SettingReading.{locale_at, zone_at, theme_at}
+use Rattle.grid_wire.specs.laws.SettingReading.{locale_at, zone_at, theme_at}
 use Rattle.sheet_wire.specs.LinesBytes.{axis_code}
 use Rattle.sheet_wire.specs.QueueBytes.{direction_code, magic}
 

@@ -15,9 +15,9 @@ use Rattle.base_wire.specs.laws.Formats.{both_format, made_format}
 use Rattle.base_wire.specs.laws.Parts.{byte_format}
 use Rattle.base_wire.specs.laws.Refusals.{coded_plain}
 use Rattle.base_wire.specs.laws.Encoded.{coded_encoded}
-use Rattle.setting_wire.specs.TableBytes.{encode_locale, encode_zone}
-use Rattle.setting_wire.specs.laws.SettingReading.{locale_at, zone_at, rgb_at, rgb_made, theme_at, theme_made, Colors}
-use Rattle.setting_wire.specs.ThemeBytes.{encode_rgb, encode_theme, FitsRgb, FitsTheme}
+use Rattle.grid_wire.specs.TableBytes.{encode_locale, encode_zone}
+use Rattle.grid_wire.specs.laws.SettingReading.{locale_at, zone_at, rgb_at, rgb_made, theme_at, theme_made, Colors}
+use Rattle.grid_wire.specs.ThemeBytes.{encode_rgb, encode_theme, FitsRgb, FitsTheme}
 
 -- ---- themes
 

@@ -1,7 +1,7 @@
 use Rattle.std.proofs.Common.{arith}
 use Rattle.base_wire.specs.laws.Format.{reads}
-use Rattle.setting_wire.specs.laws.SettingFormats.{locale_format}
-use Rattle.setting_wire.proofs.parts.LocalePartPart.take.Goals as goal
+use Rattle.grid_wire.specs.laws.SettingFormats.{locale_format}
+use Rattle.grid_wire.proofs.setting_parts.LocalePartPart.take.Goals as goal
 
 pub returns : goal.returns
 returns c = reads locale_format c.args.bytes.now _ (λ i. omega (arith, c.type_inv.bytes i)) c.locale_at.ensures

@@ -14,9 +14,9 @@ pub(crate) struct RgbPart;
 impl Part for RgbPart {
     ghost use Rattle.std.proofs.Common.{arith};
     ghost use Rattle.base_wire.specs.Encoding.{Any};
-    ghost use Rattle.setting_wire.specs.ThemeBytes.{encode_rgb, FitsRgb};
-    ghost use Rattle.setting_wire.specs.laws.SettingReading.{rgb_at};
-    ghost use Rattle.setting_wire.specs.laws.SettingFormats.{rgb_format};
+    ghost use Rattle.grid_wire.specs.ThemeBytes.{encode_rgb, FitsRgb};
+    ghost use Rattle.grid_wire.specs.laws.SettingReading.{rgb_at};
+    ghost use Rattle.grid_wire.specs.laws.SettingFormats.{rgb_format};
 
     type Value = RgbColor;
 
@@ -52,9 +52,9 @@ pub struct ThemePart;
 
 impl Part for ThemePart {
     ghost use Rattle.base_wire.specs.Encoding.{Any};
-    ghost use Rattle.setting_wire.specs.ThemeBytes.{encode_theme, FitsTheme};
-    ghost use Rattle.setting_wire.specs.laws.SettingReading.{theme_at};
-    ghost use Rattle.setting_wire.specs.laws.SettingFormats.{theme_format, theme_some};
+    ghost use Rattle.grid_wire.specs.ThemeBytes.{encode_theme, FitsTheme};
+    ghost use Rattle.grid_wire.specs.laws.SettingReading.{theme_at};
+    ghost use Rattle.grid_wire.specs.laws.SettingFormats.{theme_format, theme_some};
 
     type Value = Theme;
 
@@ -91,9 +91,9 @@ pub struct LocalePart;
 impl Part for LocalePart {
     ghost use Rattle.std.proofs.Common.{arith};
     ghost use Rattle.base_wire.specs.Encoding.{Any};
-    ghost use Rattle.setting_wire.specs.TableBytes.{encode_locale};
-    ghost use Rattle.setting_wire.specs.laws.SettingReading.{locale_at};
-    ghost use Rattle.setting_wire.specs.laws.SettingFormats.{locale_format};
+    ghost use Rattle.grid_wire.specs.TableBytes.{encode_locale};
+    ghost use Rattle.grid_wire.specs.laws.SettingReading.{locale_at};
+    ghost use Rattle.grid_wire.specs.laws.SettingFormats.{locale_format};
 
     type Value = Locale;
 
@@ -131,9 +131,9 @@ pub struct ZonePart;
 impl Part for ZonePart {
     ghost use Rattle.std.proofs.Common.{arith};
     ghost use Rattle.base_wire.specs.Encoding.{Any};
-    ghost use Rattle.setting_wire.specs.TableBytes.{encode_zone};
-    ghost use Rattle.setting_wire.specs.laws.SettingReading.{zone_at};
-    ghost use Rattle.setting_wire.specs.laws.SettingFormats.{zone_format};
+    ghost use Rattle.grid_wire.specs.TableBytes.{encode_zone};
+    ghost use Rattle.grid_wire.specs.laws.SettingReading.{zone_at};
+    ghost use Rattle.grid_wire.specs.laws.SettingFormats.{zone_format};
 
     type Value = Zone;
 

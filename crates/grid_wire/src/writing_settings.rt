@@ -1,7 +1,7 @@
 //! Themes as bytes.
 
 ghost use Rattle.std.specs.Prelude.{◌≡◌, ◌++◌, OnOk};
-ghost use Rattle.setting_wire.specs.ThemeBytes.{encode_rgb, encode_theme, FitsRgb, FitsTheme};
+ghost use Rattle.grid_wire.specs.ThemeBytes.{encode_rgb, encode_theme, FitsRgb, FitsTheme};
 
 use base_styles::{RgbColor, Theme};
 use std::alloc::AllocError;

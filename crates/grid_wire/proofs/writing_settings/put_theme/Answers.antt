@@ -1,7 +1,7 @@
 use Rattle.std.proofs.Common.{◌≡◌, ℕ, List, ◌++◌, Result, Ok, Err, ap, ◌∙◌, append_assoc}
 use Rattle.std.specs.Prelude.{OnOk}
-use Rattle.setting_wire.specs.ThemeBytes.{encode_theme}
-use Rattle.setting_wire.proofs.writing.put_theme.Goals as goal
+use Rattle.grid_wire.specs.ThemeBytes.{encode_theme}
+use Rattle.grid_wire.proofs.writing_settings.put_theme.Goals as goal
 
 -- what stands behind the first bytes, and a list behind that
 more : (first s t x y : List ℕ) → x ≡ first ++ s → y ≡ x ++ t → y ≡ first ++ (s ++ t)

@@ -5,7 +5,7 @@ ghost use Rattle.base_values.specs.Answers.{Answers, map_ok, ok_or};
 ghost use Rattle.base_values.specs.declared.EditError.TheVariants.{ParseDiffs};
 ghost use Rattle.base_tables.specs.Locale.{locale_of_code};
 ghost use Rattle.base_tables.specs.Zone.{zone_of_code};
-ghost use Rattle.setting_wire.specs.laws.SettingReading.{locale_at, zone_at, rgb_at, theme_at};
+ghost use Rattle.grid_wire.specs.laws.SettingReading.{locale_at, zone_at, rgb_at, theme_at};
 
 use crate::parts::RgbPart;
 use base_wire::read;

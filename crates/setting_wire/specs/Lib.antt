@@ -1,3 +1,0 @@
-pub mod ThemeBytes
-pub mod TableBytes
-pub mod laws

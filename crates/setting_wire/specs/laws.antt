@@ -1,2 +1,0 @@
-pub mod SettingReading
-pub mod SettingFormats

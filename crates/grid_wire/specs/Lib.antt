@@ -1,3 +1,7 @@
+pub mod StyleBytes
+pub mod CellBytes
+pub mod LinkBytes
+pub mod MergeBytes
 pub mod ThemeBytes
 pub mod TableBytes
 pub mod StateBytes

@@ -4,7 +4,7 @@ use Rattle.std.specs.Int.{w32}
 use Rattle.sheet_grid.specs.Lines.{is_plain}
 use Rattle.sheet_grid.specs.declared.LineAttr.{LineAttr}
 use Rattle.base_wire.specs.Encoding.{encode_signed, encode_code, boolean_code, encode_option}
-use Rattle.cell_wire.specs.StyleBytes.{encode_style, FitsStyle}
+use Rattle.grid_wire.specs.StyleBytes.{encode_style, FitsStyle}
 
 -- the size, the style, and whether it is hidden
 abbrev pub encode_line : LineAttr → List ℕ

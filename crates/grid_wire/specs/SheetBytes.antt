@@ -7,10 +7,10 @@ use Rattle.base_values.specs.Places.{IsPlace, IsRow, IsColumn}
 use Rattle.sheet_grid.specs.Sheet.{Sheet}
 use Rattle.base_wire.specs.Encoding.{encode_signed, encode_code, boolean_code, encode_text, FitsText}
 use Rattle.base_wire.specs.MapBytes.{encode_map, FitsMap}
-use Rattle.cell_wire.specs.StyleBytes.{encode_color, FitsColor}
-use Rattle.cell_wire.specs.CellBytes.{encode_position, encode_cell, FitsCell, IsKnownCell}
-use Rattle.cell_wire.specs.LinkBytes.{encode_link, FitsLink}
-use Rattle.cell_wire.specs.MergeBytes.{encode_merges, FitsMerges}
+use Rattle.grid_wire.specs.StyleBytes.{encode_color, FitsColor}
+use Rattle.grid_wire.specs.CellBytes.{encode_position, encode_cell, FitsCell, IsKnownCell}
+use Rattle.grid_wire.specs.LinkBytes.{encode_link, FitsLink}
+use Rattle.grid_wire.specs.MergeBytes.{encode_merges, FitsMerges}
 use Rattle.rule_wire.specs.FormattingBytes.{encode_formattings, FitsFormattings, AreKnownFormattings}
 use Rattle.grid_wire.specs.StateBytes.{state_code}
 use Rattle.grid_wire.specs.LineBytes.{encode_line, FitsLine, IsKnownLine}

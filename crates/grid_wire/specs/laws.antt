@@ -1,3 +1,10 @@
+pub mod CellReading
+pub mod PartsAgain
+pub mod PartsEncoded
+pub mod Refusals
+pub mod CellFormats
+pub mod MergeLaws
+pub mod Fitting
 pub mod SettingReading
 pub mod SettingFormats
 pub mod Reading

@@ -7,14 +7,14 @@ ghost use Rattle.base_values.specs.Answers.{Answers, map_ok};
 ghost use Rattle.base_values.specs.Places.{IsLine, IsPlace};
 ghost use Rattle.base_values.specs.declared.Position.{Position};
 ghost use Rattle.base_wire.specs.Encoding.{encode_signed};
-ghost use Rattle.cell_wire.specs.CellBytes.{encode_position};
+ghost use Rattle.grid_wire.specs.CellBytes.{encode_position};
 ghost use Rattle.base_wire.specs.MapBytes.{encode_map, FitsMap};
 ghost use Rattle.grid_wire.specs.laws.Reading.{axis_line_at, axis_map_at, place_at, place_map_at};
 
 use base_axis::{Axis, AxisMap, LineKeys};
 use base_values::{EditError, PlaceKeys, PlaceMap, Position, is_line, is_place};
 use base_wire::{Part, read};
-use cell_wire::PositionPart;
+use crate::PositionPart;
 use base_wire::{map_at, put_map};
 use std::alloc::{AllocError, Global};
 use std::marker::PhantomData;
@@ -51,8 +51,8 @@ struct AxisLinePart<A: Axis> {
 
 impl Part for PlacePart {
     ghost use Rattle.base_values.specs.Places.{IsPlace};
-    ghost use Rattle.cell_wire.specs.CellBytes.{encode_position};
-    ghost use Rattle.cell_wire.specs.laws.CellFormats.{position_some};
+    ghost use Rattle.grid_wire.specs.CellBytes.{encode_position};
+    ghost use Rattle.grid_wire.specs.laws.CellFormats.{position_some};
     ghost use Rattle.grid_wire.specs.laws.Reading.{place_at};
     ghost use Rattle.grid_wire.specs.laws.KeyLaws.{place_format};
 

@@ -5,18 +5,28 @@
 //! with `ParseDiffs`. The keys of a sheet's maps lie inside the sheet.
 #![tactic(auto)]
 
+mod cell_parts;
+mod encode_style;
 mod keys;
 mod lines;
+mod merges;
 mod names;
+mod reading_cells;
 mod reading_settings;
 mod reading_sheets;
+mod reading_styles;
 mod setting_parts;
 mod sheets;
 mod states;
+mod style_codes;
+mod writing_cells;
 mod writing_settings;
 mod writing_sheets;
 
+pub use cell_parts::{CellPart, ColorPart, PositionPart, StylePart};
+pub use encode_style::encode_style;
 pub use lines::LinePart;
+pub use merges::{LinkPart, MergeListPart};
 pub use names::NamePart;
 pub use setting_parts::{LocalePart, ThemePart, ZonePart};
 pub use sheets::SheetPart;

@@ -7,7 +7,7 @@ use base_shared::Shared;
 use base_styles::Style;
 use base_values::EditError;
 use base_wire::{Part, read};
-use cell_wire::StylePart;
+use crate::StylePart;
 use sheet_grid::LineAttr;
 use std::alloc::{AllocError, Global};
 

@@ -3,7 +3,7 @@
 ghost use Rattle.std.specs.Prelude.{IfOk};
 ghost use Rattle.base_values.specs.Answers.{Answers, map_ok};
 ghost use Rattle.sheet_grid.specs.CanonicalCell.{CanonicalCells};
-ghost use Rattle.cell_wire.specs.laws.CellReading.{merges_at};
+ghost use Rattle.grid_wire.specs.laws.CellReading.{merges_at};
 ghost use Rattle.rule_wire.specs.laws.RuleReading.{formattings_at};
 ghost use Rattle.base_wire.specs.laws.Reading.{◌⊗◌};
 ghost use Rattle.grid_wire.specs.laws.Reading.{cells_at, columns_at, fields_at, links_at, rows_at, sheet_at};
@@ -16,7 +16,7 @@ use base_axis::{AxisMap, ColumnAxis, MergeList, RowAxis};
 use base_shared::Shared;
 use base_styles::Style;
 use base_values::{EditError, PlaceMap, Text};
-use cell_wire::{CellPart, ColorPart, LinkPart, MergeListPart};
+use crate::{CellPart, ColorPart, LinkPart, MergeListPart};
 use format_rules::RuleList;
 use rule_wire::RuleListPart;
 use sheet_grid::{Cell, LineAttr, Link, SheetEntries, Worksheet};

@@ -3,7 +3,7 @@
 ghost use Rattle.std.specs.Prelude.{◌≡◌, ◌++◌, OnOk, FitsSigned};
 ghost use Rattle.std.specs.Int.{w32};
 ghost use Rattle.base_wire.specs.Encoding.{boolean_code, encode_code, encode_signed, encode_text, FitsText};
-ghost use Rattle.cell_wire.specs.StyleBytes.{encode_color, FitsColor};
+ghost use Rattle.grid_wire.specs.StyleBytes.{encode_color, FitsColor};
 ghost use Rattle.grid_wire.specs.StateBytes.{state_code};
 ghost use Rattle.grid_wire.specs.SheetBytes.{encode_entries, encode_fields, encode_sheet, FitsEntries, FitsFields, FitsSheet, IsKnownSheet};
 
@@ -12,7 +12,7 @@ use crate::lines::LinePart;
 use crate::states::StatePart;
 use base_axis::{ColumnAxis, RowAxis};
 use base_wire::{Part, boolean_code};
-use cell_wire::{CellPart, ColorPart, LinkPart, MergeListPart};
+use crate::{CellPart, ColorPart, LinkPart, MergeListPart};
 use rule_wire::RuleListPart;
 use sheet_grid::Worksheet;
 use std::alloc::AllocError;

@@ -9,9 +9,9 @@ use Rattle.sheet_lines.specs.declared.KeptLines.{KeptLines}
 use Rattle.base_wire.specs.Encoding.{encode_signed, encode_option}
 use Rattle.formula_wire.specs.NodeBytes.{encode_node}
 use Rattle.formula_wire.specs.Carried.{FitsNode, IsKnownNode}
-use Rattle.cell_wire.specs.CellBytes.{encode_position, FitsPosition, encode_cell, FitsCell, IsKnownCell}
-use Rattle.cell_wire.specs.LinkBytes.{encode_link, FitsLink}
-use Rattle.cell_wire.specs.MergeBytes.{encode_merges, FitsMerges}
+use Rattle.grid_wire.specs.CellBytes.{encode_position, FitsPosition, encode_cell, FitsCell, IsKnownCell}
+use Rattle.grid_wire.specs.LinkBytes.{encode_link, FitsLink}
+use Rattle.grid_wire.specs.MergeBytes.{encode_merges, FitsMerges}
 use Rattle.base_wire.specs.MapBytes.{encode_map, FitsMap}
 use Rattle.rule_wire.specs.FormattingBytes.{encode_formatting, FitsFormatting, IsKnownFormatting}
 use Rattle.grid_wire.specs.LineBytes.{encode_line, FitsLine}

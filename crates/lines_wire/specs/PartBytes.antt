@@ -3,7 +3,7 @@ use Rattle.std.specs.Prelude.{ℕ, ◌<◌, ◌^◌, List, ◌++◌}
 use Rattle.std.specs.Int.{w32, w64, to_be_bytes}
 use Rattle.base_maps.specs.declared.SheetPlace.{SheetPlace}
 use Rattle.base_maps.specs.declared.SheetIndex.{SheetIndex}
-use Rattle.cell_wire.specs.CellBytes.{encode_position, FitsPosition}
+use Rattle.grid_wire.specs.CellBytes.{encode_position, FitsPosition}
 
 -- the id of a sheet, and a position
 abbrev pub encode_sheet_place : SheetPlace → List ℕ

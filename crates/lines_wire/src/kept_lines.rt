@@ -3,7 +3,7 @@
 ghost use Rattle.std.specs.Prelude.{◌≡◌, ◌++◌, IfSome, OnOk};
 ghost use Rattle.base_values.specs.Answers.{Answers, map_ok};
 ghost use Rattle.base_wire.specs.Encoding.{encode_option};
-ghost use Rattle.cell_wire.specs.MergeBytes.{encode_merges, FitsMerges};
+ghost use Rattle.grid_wire.specs.MergeBytes.{encode_merges, FitsMerges};
 ghost use Rattle.lines_wire.specs.KeptBytes.{encode_kept, FitsKept, IsKnownKept};
 ghost use Rattle.lines_wire.specs.laws.LinesReading.{kept_at};
 
@@ -14,7 +14,7 @@ use base_shared::Shared;
 use base_styles::Style;
 use base_values::EditError;
 use base_wire::{Part, read};
-use cell_wire::{CellPart, LinkPart, MergeListPart, PositionPart};
+use grid_wire::{CellPart, LinkPart, MergeListPart, PositionPart};
 use format_rules::ConditionalFormatting;
 use formula_tree::Node;
 use formula_wire::NodePart;

@@ -6,7 +6,7 @@ ghost use Rattle.lines_wire.specs.laws.LinesReading.{sheet_index_at, sheet_place
 use base_maps::{SheetIndex, SheetPlace};
 use base_values::EditError;
 use base_wire::{Part, read};
-use cell_wire::PositionPart;
+use grid_wire::PositionPart;
 use std::alloc::{AllocError, Global};
 
 #[tactic(auto, unfolding(crate::specs::laws::LinesReading::sheet_place_at))]

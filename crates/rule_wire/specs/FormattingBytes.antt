@@ -5,7 +5,7 @@ use Rattle.std.specs.Int.{w32, to_be_bytes}
 use Rattle.base_axis.specs.declared.MergedCell.{MergedCell}
 use Rattle.format_rules.specs.declared.ConditionalFormatting.{ConditionalFormatting}
 use Rattle.base_wire.specs.Encoding.{encode_list, FitsItems}
-use Rattle.cell_wire.specs.MergeBytes.{encode_merge, FitsMerge}
+use Rattle.grid_wire.specs.MergeBytes.{encode_merge, FitsMerge}
 use Rattle.rule_wire.specs.RuleBytes.{encode_rule, FitsRule, IsKnownRule}
 
 -- the parts of a rule, in their order

@@ -13,7 +13,7 @@ use Rattle.format_rules.specs.declared.CfRule.TheVariants.{Formula, CellIs, Colo
 use Rattle.base_wire.specs.Encoding.{encode_code, boolean_code, encode_option, FitsItems}
 use Rattle.formula_wire.specs.NodeBytes.{encode_node}
 use Rattle.formula_wire.specs.Carried.{FitsNode, IsKnownNode}
-use Rattle.cell_wire.specs.StyleBytes.{encode_color, FitsColor, encode_style, FitsStyle}
+use Rattle.grid_wire.specs.StyleBytes.{encode_color, FitsColor, encode_style, FitsStyle}
 use Rattle.rule_wire.specs.ThresholdBytes.{encode_cfvo, FitsCfvo, IsKnownCfvo, encode_colors, FitsColorThreshold, IsKnownColorThreshold, encode_icons, FitsIconThreshold, IsKnownIconThreshold}
 
 -- ---- operators

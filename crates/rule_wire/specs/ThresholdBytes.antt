@@ -9,7 +9,7 @@ use Rattle.base_wire.specs.Encoding.{encode_code, boolean_code, encode_list}
 use Rattle.base_wire.specs.Parts.{encode_decimal}
 use Rattle.formula_wire.specs.NodeBytes.{encode_node}
 use Rattle.formula_wire.specs.Carried.{FitsNode, IsKnownNode}
-use Rattle.cell_wire.specs.StyleBytes.{encode_color, FitsColor}
+use Rattle.grid_wire.specs.StyleBytes.{encode_color, FitsColor}
 
 -- ---- values
 

@@ -1,14 +1,14 @@
 //! Parts of rules as parts of formats.
 
 ghost use Rattle.base_values.specs.Answers.{Answers, map_ok};
-ghost use Rattle.cell_wire.specs.laws.CellReading.{merge_at};
+ghost use Rattle.grid_wire.specs.laws.CellReading.{merge_at};
 
 use base_axis::MergedCell;
 use base_values::EditError;
 use base_wire::{Part, read};
 use std::alloc::{AllocError, Global};
 
-#[tactic(auto, unfolding(cell_wire::specs::laws::CellReading::merge_at))]
+#[tactic(auto, unfolding(grid_wire::specs::laws::CellReading::merge_at))]
 fn area_at(alloc: Global, bytes: &[u8]) -> Result<(MergedCell, &[u8]), EditError>
     ensures { Answers (map_ok (λ x. (x.0, x.1.now)) result) (merge_at bytes.now) }
 {
@@ -30,9 +30,9 @@ pub(crate) struct AreaPart;
 
 impl Part for AreaPart {
     ghost use Rattle.base_wire.specs.Encoding.{Any};
-    ghost use Rattle.cell_wire.specs.MergeBytes.{encode_merge, FitsMerge};
-    ghost use Rattle.cell_wire.specs.laws.CellReading.{merge_at};
-    ghost use Rattle.cell_wire.specs.laws.MergeLaws.{merge_format, merge_some};
+    ghost use Rattle.grid_wire.specs.MergeBytes.{encode_merge, FitsMerge};
+    ghost use Rattle.grid_wire.specs.laws.CellReading.{merge_at};
+    ghost use Rattle.grid_wire.specs.laws.MergeLaws.{merge_format, merge_some};
 
     type Value = MergedCell;
 
@@ -46,7 +46,7 @@ impl Part for AreaPart {
 
     ghost reading = { merge_at };
 
-    #[tactic(auto, unfolding(cell_wire::specs::MergeBytes::encode_merge))]
+    #[tactic(auto, unfolding(grid_wire::specs::MergeBytes::encode_merge))]
     fn put(out: &mut Vec<u8>, value: &MergedCell) -> Result<(), AllocError> {
         i32::put(out, &value.row)?;
         i32::put(out, &value.column)?;

@@ -9,7 +9,7 @@ use base_wire::read;
 use base_shared::Shared;
 use base_styles::Style;
 use base_values::{EditError, Items};
-use cell_wire::{ColorPart, StylePart};
+use grid_wire::{ColorPart, StylePart};
 use format_rules::CfRule;
 use formula_wire::NodePart;
 use std::alloc::Global;

@@ -12,7 +12,7 @@ use crate::thresholds::{CfvoPart, ColorThresholdPart, IconThresholdPart};
 use base_shared::Shared;
 use base_styles::{Color, Style};
 use base_wire::{Part, put_items};
-use cell_wire::{ColorPart, StylePart};
+use grid_wire::{ColorPart, StylePart};
 use format_rules::{CfOperator, CfRule, Cfvo, IconThreshold};
 use formula_tree::Node;
 use formula_wire::NodePart;

@@ -29,7 +29,7 @@ use Rattle.cell_content.specs.declared.Content.{Content}
 use Rattle.cell_content.specs.declared.Content.TheVariants.{Empty, Formula, Dynamic, Array}
 use Rattle.sheet_grid.specs.declared.SheetState.{SheetState}
 use Rattle.sheet_grid.specs.declared.SheetState.TheVariants.{Visible, Hidden, VeryHidden}
-use Rattle.cell_wire.specs.StyleBytes.{encode_style}
+use Rattle.grid_wire.specs.StyleBytes.{encode_style}
 use Rattle.format_rules.specs.declared.ConditionalFormatting.{ConditionalFormatting}
 use Rattle.rule_wire.specs.RuleBytes.{encode_rule}
 use Rattle.script_lines.specs.Escapes.{escaped}

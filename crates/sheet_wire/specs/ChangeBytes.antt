@@ -3,7 +3,7 @@ use Rattle.std.specs.Prelude.{ℕ, ◌<◌, ◌^◌, List, ◌++◌, Option, IfS
 use Rattle.std.specs.Int.{w32, to_be_bytes}
 use Rattle.base_values.specs.declared.Position.{Position}
 use Rattle.base_wire.specs.Encoding.{encode_option}
-use Rattle.cell_wire.specs.CellBytes.{encode_position, FitsPosition}
+use Rattle.grid_wire.specs.CellBytes.{encode_position, FitsPosition}
 
 -- ---- at a position
 

@@ -12,9 +12,9 @@ use Rattle.sheet_history.specs.declared.QueueDiffs.{QueueDiffs}
 use Rattle.base_wire.specs.Encoding.{encode_code, encode_list, encode_text, FitsItems}
 use Rattle.grid_wire.specs.TableBytes.{encode_locale, encode_zone}
 use Rattle.grid_wire.specs.ThemeBytes.{encode_theme}
-use Rattle.cell_wire.specs.CellBytes.{encode_cell, FitsCell, IsKnownCell}
-use Rattle.cell_wire.specs.LinkBytes.{encode_link, FitsLink}
-use Rattle.cell_wire.specs.MergeBytes.{encode_merges, FitsMerges}
+use Rattle.grid_wire.specs.CellBytes.{encode_cell, FitsCell, IsKnownCell}
+use Rattle.grid_wire.specs.LinkBytes.{encode_link, FitsLink}
+use Rattle.grid_wire.specs.MergeBytes.{encode_merges, FitsMerges}
 use Rattle.grid_wire.specs.LineBytes.{IsKnownLine}
 use Rattle.lines_wire.specs.KeptBytes.{IsKnownKept}
 use Rattle.sheet_wire.specs.AttrBytes.{encode_attr_change, FitsAttrChange}

@@ -9,7 +9,7 @@ use Rattle.sheet_history.specs.declared.FieldChange.{FieldChange}
 use Rattle.sheet_history.specs.declared.FieldChange.TheVariants as change
 use Rattle.base_wire.specs.Encoding.{Any, encode_code, boolean_code, encode_signed, encode_text, FitsText}
 use Rattle.base_wire.specs.MapBytes.{encode_map, FitsMap}
-use Rattle.cell_wire.specs.StyleBytes.{encode_color, FitsColor}
+use Rattle.grid_wire.specs.StyleBytes.{encode_color, FitsColor}
 use Rattle.grid_wire.specs.StateBytes.{state_code}
 use Rattle.grid_wire.specs.NameBytes.{encode_name, FitsName, IsKnownName}
 use Rattle.grid_wire.specs.SheetBytes.{encode_sheet, FitsSheet, IsKnownSheet}

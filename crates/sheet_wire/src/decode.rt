@@ -23,7 +23,7 @@ use base_shared::Shared;
 use base_styles::Style;
 use base_values::{EditError, Items, Position};
 use base_wire::{Part, read};
-use cell_wire::{CellPart, LinkPart, MergeListPart, PositionPart};
+use grid_wire::{CellPart, LinkPart, MergeListPart, PositionPart};
 use lines_wire::{EditPart, KeptLinesPart};
 use sheet_history::{Diff, DiffType, LineAxis, QueueDiffs};
 use std::alloc::Global;

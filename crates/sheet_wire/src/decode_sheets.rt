@@ -9,7 +9,7 @@ use base_shared::Shared;
 use base_styles::Style;
 use base_values::{EditError, Text};
 use base_wire::{Part, read};
-use cell_wire::ColorPart;
+use grid_wire::ColorPart;
 use grid_wire::{NamePart, StatePart};
 use name_edits::NameChange;
 use sheet_history::{Diff, FieldChange};

@@ -19,7 +19,7 @@ use crate::settings::put_setting;
 use base_shared::Shared;
 use base_values::{EditError, Items, Position};
 use base_wire::{Part, put_items};
-use cell_wire::{CellPart, LinkPart, MergeListPart, PositionPart};
+use grid_wire::{CellPart, LinkPart, MergeListPart, PositionPart};
 use line_map::EditKind;
 use lines_wire::{EditPart, KeptLinesPart};
 use sheet_history::{Diff, LineAxis, QueueDiffs};

@@ -15,7 +15,7 @@ use base_values::Text;
 use base_wire::Part;
 use book_names::KeptTrees;
 use book_sheets::KeptSheet;
-use cell_wire::ColorPart;
+use grid_wire::ColorPart;
 use grid_wire::{NamePart, StatePart};
 use name_edits::NameChange;
 use sheet_history::FieldChange;

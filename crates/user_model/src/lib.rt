@@ -20,7 +20,7 @@ pub use base_styles::{
 };
 pub use base_values::{EditError, Items, Position, Text};
 pub use cell_type::CellType;
-pub use cell_wire::encode_style;
+pub use grid_wire::encode_style;
 pub use format_rules::{
     CfOperator, CfRule, Cfvo, ColorThreshold, ConditionalFormatting, IconThreshold,
 };

@@ -6,8 +6,8 @@ use Rattle.defined_names.specs.Names.{IsCanonicalName}
 use Rattle.sheet_grid.specs.declared.Cell.{Cell}
 use Rattle.sheet_grid.specs.CanonicalCell.{CanonicalCells}
 use Rattle.formula_wire.specs.laws.CanonicalLaws.{canonical_from_carried}
-use Rattle.cell_wire.specs.CellBytes.{FitsCell}
-use Rattle.cell_wire.specs.laws.Fitting.{canonical_cell_from_fits}
+use Rattle.grid_wire.specs.CellBytes.{FitsCell}
+use Rattle.grid_wire.specs.laws.Fitting.{canonical_cell_from_fits}
 use Rattle.base_wire.specs.MapBytes.{FitsMap}
 use Rattle.base_wire.specs.laws.MapFits.{values_hold}
 use Rattle.grid_wire.specs.NameBytes.{FitsName}

@@ -16,8 +16,8 @@ use Rattle.base_wire.specs.laws.Format.{Format}
 use Rattle.base_wire.specs.laws.Formats.{check_format}
 use Rattle.base_wire.specs.laws.Parts.{signed_format}
 use Rattle.base_wire.specs.laws.Encoded.{fits_otherwise}
-use Rattle.cell_wire.specs.CellBytes.{encode_position, FitsPosition}
-use Rattle.cell_wire.specs.laws.CellFormats.{position_format, position_some}
+use Rattle.grid_wire.specs.CellBytes.{encode_position, FitsPosition}
+use Rattle.grid_wire.specs.laws.CellFormats.{position_format, position_some}
 use Rattle.base_wire.specs.MapBytes.{encode_map, FitsMap}
 use Rattle.base_wire.specs.laws.MapLaws.{map_format}
 use Rattle.grid_wire.specs.laws.Reading.{place_at, axis_line_at, place_map_at, axis_map_at}

@@ -9,8 +9,8 @@ use Rattle.base_wire.specs.Encoding.{encode_signed, encode_code, boolean_code, e
 use Rattle.base_wire.specs.laws.Format.{Format, option_format}
 use Rattle.base_wire.specs.laws.Formats.{both_format, check_format, made_format}
 use Rattle.base_wire.specs.laws.Parts.{signed_format, boolean_format, option_some}
-use Rattle.cell_wire.specs.StyleBytes.{encode_style}
-use Rattle.cell_wire.specs.laws.CellFormats.{style_format}
+use Rattle.grid_wire.specs.StyleBytes.{encode_style}
+use Rattle.grid_wire.specs.laws.CellFormats.{style_format}
 use Rattle.grid_wire.specs.LineBytes.{encode_line, FitsLine}
 use Rattle.grid_wire.specs.laws.Reading.{line_made, size_at, own_style_at, line_at}
 

@@ -8,7 +8,7 @@ use Rattle.std.specs.Ordering.{int_cmp}
 use Rattle.base_values.specs.declared.Position.{Position}
 use Rattle.base_values.specs.Places.{is_line, is_place, position_cmp}
 use Rattle.base_wire.specs.laws.Reading.{Reader, check_at, signed_at, boolean_at, map_at, ◌⊗◌, option_at, number_at, text_at, code_at}
-use Rattle.cell_wire.specs.laws.CellReading.{position_at, style_at, color_at, cell_at, link_at, merges_at}
+use Rattle.grid_wire.specs.laws.CellReading.{position_at, style_at, color_at, cell_at, link_at, merges_at}
 use Rattle.base_wire.specs.laws.MapReading.{map_of_at}
 use Rattle.base_styles.specs.declared.Style.{Style}
 use Rattle.sheet_grid.specs.Lines.{is_plain}

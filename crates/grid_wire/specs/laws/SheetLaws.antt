@@ -9,10 +9,10 @@ use Rattle.base_wire.specs.laws.Format.{Format}
 use Rattle.base_wire.specs.laws.Formats.{both_format, made_format}
 use Rattle.base_wire.specs.laws.Parts.{boolean_format, short_format, signed_format, text_format}
 use Rattle.base_wire.specs.MapBytes.{encode_map, FitsMap}
-use Rattle.cell_wire.specs.CellBytes.{encode_position, encode_cell, FitsCell}
-use Rattle.cell_wire.specs.LinkBytes.{encode_link, FitsLink}
-use Rattle.cell_wire.specs.laws.CellFormats.{color_format, cell_format}
-use Rattle.cell_wire.specs.laws.MergeLaws.{link_format, merges_format}
+use Rattle.grid_wire.specs.CellBytes.{encode_position, encode_cell, FitsCell}
+use Rattle.grid_wire.specs.LinkBytes.{encode_link, FitsLink}
+use Rattle.grid_wire.specs.laws.CellFormats.{color_format, cell_format}
+use Rattle.grid_wire.specs.laws.MergeLaws.{link_format, merges_format}
 use Rattle.rule_wire.specs.laws.FormattingLaws.{formattings_format}
 use Rattle.grid_wire.specs.LineBytes.{encode_line, FitsLine}
 use Rattle.grid_wire.specs.SheetBytes.{encode_fields, FitsFields, encode_entries, encode_sheet, FitsSheet}

@@ -17,11 +17,11 @@ use Rattle.base_wire.specs.laws.Parts.{long_format, signed_format}
 use Rattle.formula_wire.specs.NodeBytes.{encode_node}
 use Rattle.formula_wire.specs.Carried.{FitsNode}
 use Rattle.formula_wire.specs.laws.NodeLaws.{node_format}
-use Rattle.cell_wire.specs.CellBytes.{encode_position, FitsPosition, encode_cell, FitsCell}
-use Rattle.cell_wire.specs.laws.CellFormats.{position_format, position_some, cell_format}
-use Rattle.cell_wire.specs.LinkBytes.{encode_link, FitsLink}
-use Rattle.cell_wire.specs.MergeBytes.{encode_merges, FitsMerges}
-use Rattle.cell_wire.specs.laws.MergeLaws.{link_format, merges_format}
+use Rattle.grid_wire.specs.CellBytes.{encode_position, FitsPosition, encode_cell, FitsCell}
+use Rattle.grid_wire.specs.laws.CellFormats.{position_format, position_some, cell_format}
+use Rattle.grid_wire.specs.LinkBytes.{encode_link, FitsLink}
+use Rattle.grid_wire.specs.MergeBytes.{encode_merges, FitsMerges}
+use Rattle.grid_wire.specs.laws.MergeLaws.{link_format, merges_format}
 use Rattle.base_wire.specs.MapBytes.{encode_map, FitsMap}
 use Rattle.grid_wire.specs.LineBytes.{encode_line, FitsLine}
 use Rattle.lines_wire.specs.PartBytes.{encode_sheet_place, FitsSheetPlace}

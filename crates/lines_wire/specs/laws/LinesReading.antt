@@ -7,7 +7,7 @@ use Rattle.base_wire.specs.laws.Reading.{Reader, refused, map_at, ◌⊗◌, tag
 use Rattle.base_values.specs.declared.Position.{Position}
 use Rattle.base_maps.specs.declared.SheetPlace.{SheetPlace}
 use Rattle.base_maps.specs.declared.SheetIndex.{SheetIndex}
-use Rattle.cell_wire.specs.laws.CellReading.{position_at, cell_at, link_at, merges_at}
+use Rattle.grid_wire.specs.laws.CellReading.{position_at, cell_at, link_at, merges_at}
 use Rattle.std.specs.Ordering.{int_cmp, nat_cmp}
 use Rattle.std.specs.FinMap.{FinMap}
 use Rattle.base_values.specs.Places.{position_cmp}

@@ -3,7 +3,7 @@ use Rattle.std.proofs.Common.{◌≤◌, length, refl, arith}
 use Rattle.base_wire.specs.laws.Format.{Format, list_format}
 use Rattle.base_wire.specs.laws.Formats.{both_format, made_format}
 use Rattle.base_wire.specs.laws.Parts.{short_format}
-use Rattle.cell_wire.specs.laws.MergeLaws.{merge_format, merge_some}
+use Rattle.grid_wire.specs.laws.MergeLaws.{merge_format, merge_some}
 use Rattle.format_rules.specs.declared.ConditionalFormatting.{ConditionalFormatting}
 use Rattle.rule_wire.specs.FormattingBytes.{encode_areas, FitsAreas, encode_formatting, FitsFormatting, encode_formattings, FitsFormattings}
 use Rattle.rule_wire.specs.laws.RuleReading.{areas_at, formatting_made, formatting_at, formattings_at}

@@ -17,9 +17,9 @@ use Rattle.formula_wire.specs.NodeBytes.{encode_node}
 use Rattle.formula_wire.specs.laws.Reading.{node_at}
 use Rattle.formula_wire.specs.Carried.{FitsNode}
 use Rattle.formula_wire.specs.laws.NodeLaws.{node_format}
-use Rattle.cell_wire.specs.StyleBytes.{encode_style, FitsStyle, encode_color, FitsColor}
-use Rattle.cell_wire.specs.laws.CellReading.{style_at, color_at}
-use Rattle.cell_wire.specs.laws.CellFormats.{color_format, style_format}
+use Rattle.grid_wire.specs.StyleBytes.{encode_style, FitsStyle, encode_color, FitsColor}
+use Rattle.grid_wire.specs.laws.CellReading.{style_at, color_at}
+use Rattle.grid_wire.specs.laws.CellFormats.{color_format, style_format}
 use Rattle.rule_wire.specs.ThresholdBytes.{encode_cfvo, FitsCfvo, encode_colors, encode_icons, FitsIconThreshold}
 use Rattle.rule_wire.specs.laws.RuleReading.{bound_at, colors_at, icons_at, operators, operator_at, formula_made, second_at, cell_is_made, data_bar_made, icon_set_made, icon_rating_made, rule_of, rule_at}
 use Rattle.rule_wire.specs.RuleBytes.{operator_code, encode_formula, encode_cell_is, encode_data_bar, encode_icon_set, encode_icon_rating, encode_rule, FitsRule}

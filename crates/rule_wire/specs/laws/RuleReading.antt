@@ -7,7 +7,7 @@ use Rattle.format_rules.specs.declared.ColorThreshold.{ColorThreshold}
 use Rattle.format_rules.specs.declared.IconThreshold.{IconThreshold}
 use Rattle.base_wire.specs.laws.Reading.{Reader, plain, refused, map_at, ◌⊗◌, tagged_at, option_at, list_at, boolean_at, decimal_at, byte_at, code_at, number_at}
 use Rattle.formula_wire.specs.laws.Reading.{node_at}
-use Rattle.cell_wire.specs.laws.CellReading.{color_at, style_at, merge_at}
+use Rattle.grid_wire.specs.laws.CellReading.{color_at, style_at, merge_at}
 use Rattle.base_styles.specs.declared.Style.{Style}
 use Rattle.formula_tree.specs.declared.Node.{Node}
 use Rattle.format_rules.specs.declared.CfOperator.{CfOperator}

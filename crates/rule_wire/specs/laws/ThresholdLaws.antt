@@ -13,12 +13,12 @@ use Rattle.base_wire.specs.laws.Parts.{boolean_format, decimal_again, decimal_en
 use Rattle.base_wire.specs.laws.Refusals.{IsPlain, map_plain, plain_plain, refused_plain, if_plain, tagged_plain}
 use Rattle.base_wire.specs.laws.Encoded.{ReadsEncoded, tag_map, tag_plain, tag_refused, tag_if, tagged_encoded}
 use Rattle.formula_wire.specs.laws.NodeLaws.{node_again, node_encoded, node_plain}
-use Rattle.cell_wire.specs.laws.CellFormats.{color_format}
+use Rattle.grid_wire.specs.laws.CellFormats.{color_format}
 use Rattle.rule_wire.specs.ThresholdBytes.{encode_cfvo, FitsCfvo, encode_color_threshold, FitsColorThreshold, encode_colors, encode_icon_threshold, FitsIconThreshold, encode_icons}
 use Rattle.rule_wire.specs.laws.RuleReading.{cfvo_of, cfvo_at, bound_at, color_threshold_made, color_threshold_at, colors_at, icon_threshold_made, icon_threshold_at, icons_at}
 use Rattle.std.specs.Prelude.{IfSome}
 use Rattle.base_wire.specs.Encoding.{boolean_code, encode_code, encode_option}
-use Rattle.cell_wire.specs.StyleBytes.{encode_color}
+use Rattle.grid_wire.specs.StyleBytes.{encode_color}
 
 cfvo_again : ReadsAgain FitsCfvo encode_cfvo cfvo_at
 unfolding cfvo_at

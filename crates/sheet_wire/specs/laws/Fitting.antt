@@ -28,8 +28,8 @@ use Rattle.sheet_history.specs.laws.Depth.{AreShallowTrees, IsShallowDiff, IsSha
 use Rattle.sheet_history.specs.Diffs.{IsCanonicalDiff, IsCanonicalList, IsCanonicalQueue}
 use Rattle.formula_wire.specs.Carried.{FitsNode, IsKnownNode}
 use Rattle.formula_wire.specs.laws.CanonicalLaws.{canonical_from_carried}
-use Rattle.cell_wire.specs.CellBytes.{FitsCell, IsKnownCell}
-use Rattle.cell_wire.specs.laws.Fitting.{canonical_cell_from_fits}
+use Rattle.grid_wire.specs.CellBytes.{FitsCell, IsKnownCell}
+use Rattle.grid_wire.specs.laws.Fitting.{canonical_cell_from_fits}
 use Rattle.rule_wire.specs.FormattingBytes.{FitsFormatting, IsKnownFormatting, AreKnownFormattings}
 use Rattle.rule_wire.specs.laws.KnownLaws.{canonical_rules_from_fit, rule_known}
 use Rattle.lines_wire.specs.PartBytes.{FitsSheetIndex}

@@ -17,14 +17,14 @@ use Rattle.base_wire.specs.laws.Again.{ReadsAgain, code_again}
 use Rattle.base_wire.specs.laws.Format.{Format, list_format, option_format}
 use Rattle.base_wire.specs.laws.Formats.{both_format, after_format, made_format}
 use Rattle.base_wire.specs.laws.Parts.{boolean_format, short_format, signed_format, text_format}
-use Rattle.cell_wire.specs.laws.CellReading.{color_at, cell_at, link_at, merges_at}
+use Rattle.grid_wire.specs.laws.CellReading.{color_at, cell_at, link_at, merges_at}
 use Rattle.base_wire.specs.laws.Refusals.{IsPlain, code_plain, if_plain, map_plain, refused_plain, tagged_plain}
 use Rattle.base_wire.specs.laws.Encoded.{ReadsEncoded, code_encoded, tag_if, tag_map, tag_refused, tagged_encoded}
-use Rattle.cell_wire.specs.CellBytes.{encode_position, FitsPosition, encode_cell}
-use Rattle.cell_wire.specs.LinkBytes.{encode_link}
-use Rattle.cell_wire.specs.MergeBytes.{encode_merges}
-use Rattle.cell_wire.specs.laws.CellFormats.{color_format, position_format, cell_format}
-use Rattle.cell_wire.specs.laws.MergeLaws.{link_format, merges_format}
+use Rattle.grid_wire.specs.CellBytes.{encode_position, FitsPosition, encode_cell}
+use Rattle.grid_wire.specs.LinkBytes.{encode_link}
+use Rattle.grid_wire.specs.MergeBytes.{encode_merges}
+use Rattle.grid_wire.specs.laws.CellFormats.{color_format, position_format, cell_format}
+use Rattle.grid_wire.specs.laws.MergeLaws.{link_format, merges_format}
 use Rattle.lines_wire.specs.EditBytes.{encode_edit, FitsEdit}
 use Rattle.lines_wire.specs.KeptBytes.{encode_kept, FitsKept}
 use Rattle.lines_wire.specs.laws.EditLaws.{edit_format}

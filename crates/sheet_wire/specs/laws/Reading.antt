@@ -5,7 +5,7 @@ use Rattle.sheet_grid.specs.declared.LineAttr.{LineAttr}
 use Rattle.base_wire.specs.laws.Reading.{Reader, ◌⊗◌, number_at, option_at, signed_at, code_at, map_at, text_at, boolean_at, refused, tagged_at, list_at, after, whole}
 use Rattle.grid_wire.specs.laws.Reading.{line_at, name_at, states, sheet_at}
 use Rattle.base_values.specs.declared.Position.{Position}
-use Rattle.cell_wire.specs.laws.CellReading.{position_at, cell_at, color_at, link_at, merges_at}
+use Rattle.grid_wire.specs.laws.CellReading.{position_at, cell_at, color_at, link_at, merges_at}
 use Rattle.line_edits.specs.declared.EditKind.{EditKind}
 use Rattle.sheet_lines.specs.declared.KeptLines.{KeptLines}
 use Rattle.sheet_history.specs.declared.LineAxis.{LineAxis}

@@ -10,9 +10,9 @@ use Rattle.rule_wire.specs.FormattingBytes.{FitsFormattings, AreKnownFormattings
 use Rattle.sheet_grid.specs.declared.Cell.{Cell}
 use Rattle.sheet_grid.specs.declared.LineAttr.{LineAttr}
 use Rattle.sheet_grid.specs.declared.Link.{Link}
-use Rattle.cell_wire.specs.CellBytes.{FitsCell, IsKnownCell}
-use Rattle.cell_wire.specs.LinkBytes.{FitsLink}
-use Rattle.cell_wire.specs.MergeBytes.{FitsMerges}
+use Rattle.grid_wire.specs.CellBytes.{FitsCell, IsKnownCell}
+use Rattle.grid_wire.specs.LinkBytes.{FitsLink}
+use Rattle.grid_wire.specs.MergeBytes.{FitsMerges}
 use Rattle.base_wire.specs.MapBytes.{FitsMap}
 use Rattle.base_wire.specs.laws.MapFits.{any_option}
 use Rattle.grid_wire.specs.LineBytes.{FitsLine, IsKnownLine}

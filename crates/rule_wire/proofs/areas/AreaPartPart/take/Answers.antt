@@ -1,6 +1,6 @@
 use Rattle.std.proofs.Common.{arith}
 use Rattle.base_wire.specs.laws.Format.{reads}
-use Rattle.cell_wire.specs.laws.MergeLaws.{merge_format}
+use Rattle.grid_wire.specs.laws.MergeLaws.{merge_format}
 use Rattle.rule_wire.proofs.areas.AreaPartPart.take.Goals as goal
 
 pub returns : goal.returns

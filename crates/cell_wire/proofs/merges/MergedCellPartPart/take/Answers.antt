@@ -1,7 +1,0 @@
-use Rattle.std.proofs.Common.{arith}
-use Rattle.base_wire.specs.laws.Format.{reads}
-use Rattle.cell_wire.specs.laws.MergeLaws.{merge_format}
-use Rattle.cell_wire.proofs.merges.MergedCellPartPart.take.Goals as goal
-
-pub returns : goal.returns
-returns c = reads merge_format c.args.bytes.now _ (λ i. omega (arith, c.type_inv.bytes i)) c.merge_at.ensures

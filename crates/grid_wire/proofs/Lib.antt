@@ -1,1 +1,2 @@
+mod KnownRules
 mod Known

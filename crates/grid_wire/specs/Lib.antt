@@ -1,3 +1,6 @@
+pub mod ThresholdBytes
+pub mod RuleBytes
+pub mod FormattingBytes
 pub mod StyleBytes
 pub mod CellBytes
 pub mod LinkBytes

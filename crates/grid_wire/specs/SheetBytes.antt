@@ -11,7 +11,7 @@ use Rattle.grid_wire.specs.StyleBytes.{encode_color, FitsColor}
 use Rattle.grid_wire.specs.CellBytes.{encode_position, encode_cell, FitsCell, IsKnownCell}
 use Rattle.grid_wire.specs.LinkBytes.{encode_link, FitsLink}
 use Rattle.grid_wire.specs.MergeBytes.{encode_merges, FitsMerges}
-use Rattle.rule_wire.specs.FormattingBytes.{encode_formattings, FitsFormattings, AreKnownFormattings}
+use Rattle.grid_wire.specs.FormattingBytes.{encode_formattings, FitsFormattings, AreKnownFormattings}
 use Rattle.grid_wire.specs.StateBytes.{state_code}
 use Rattle.grid_wire.specs.LineBytes.{encode_line, FitsLine, IsKnownLine}
 

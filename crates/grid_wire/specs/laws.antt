@@ -1,3 +1,8 @@
+pub mod RuleReading
+pub mod ThresholdLaws
+pub mod RuleLaws
+pub mod FormattingLaws
+pub mod KnownLaws
 pub mod CellReading
 pub mod PartsAgain
 pub mod PartsEncoded

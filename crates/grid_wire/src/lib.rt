@@ -5,29 +5,40 @@
 //! with `ParseDiffs`. The keys of a sheet's maps lie inside the sheet.
 #![tactic(auto)]
 
+mod areas;
 mod cell_parts;
+mod encode_rule;
 mod encode_style;
+mod formattings;
 mod keys;
 mod lines;
 mod merges;
 mod names;
 mod reading_cells;
+mod reading_rules;
 mod reading_settings;
 mod reading_sheets;
 mod reading_styles;
+mod rule_codes;
+mod rules;
 mod setting_parts;
 mod sheets;
 mod states;
 mod style_codes;
+mod thresholds;
 mod writing_cells;
+mod writing_rules;
 mod writing_settings;
 mod writing_sheets;
 
 pub use cell_parts::{CellPart, ColorPart, PositionPart, StylePart};
+pub use encode_rule::encode_rule;
 pub use encode_style::encode_style;
+pub use formattings::{FormattingPart, RuleListPart};
 pub use lines::LinePart;
 pub use merges::{LinkPart, MergeListPart};
 pub use names::NamePart;
+pub use rules::RulePart;
 pub use setting_parts::{LocalePart, ThemePart, ZonePart};
 pub use sheets::SheetPart;
 pub use states::StatePart;

@@ -4,7 +4,7 @@ ghost use Rattle.std.specs.Prelude.{IfOk};
 ghost use Rattle.base_values.specs.Answers.{Answers, map_ok};
 ghost use Rattle.sheet_grid.specs.CanonicalCell.{CanonicalCells};
 ghost use Rattle.grid_wire.specs.laws.CellReading.{merges_at};
-ghost use Rattle.rule_wire.specs.laws.RuleReading.{formattings_at};
+ghost use Rattle.grid_wire.specs.laws.RuleReading.{formattings_at};
 ghost use Rattle.base_wire.specs.laws.Reading.{◌⊗◌};
 ghost use Rattle.grid_wire.specs.laws.Reading.{cells_at, columns_at, fields_at, links_at, rows_at, sheet_at};
 
@@ -18,7 +18,7 @@ use base_styles::Style;
 use base_values::{EditError, PlaceMap, Text};
 use crate::{CellPart, ColorPart, LinkPart, MergeListPart};
 use format_rules::RuleList;
-use rule_wire::RuleListPart;
+use crate::RuleListPart;
 use sheet_grid::{Cell, LineAttr, Link, SheetEntries, Worksheet};
 use std::alloc::Global;
 

@@ -13,7 +13,7 @@ use crate::states::StatePart;
 use base_axis::{ColumnAxis, RowAxis};
 use base_wire::{Part, boolean_code};
 use crate::{CellPart, ColorPart, LinkPart, MergeListPart};
-use rule_wire::RuleListPart;
+use crate::RuleListPart;
 use sheet_grid::Worksheet;
 use std::alloc::AllocError;
 

@@ -13,7 +13,7 @@ use Rattle.grid_wire.specs.CellBytes.{encode_position, FitsPosition, encode_cell
 use Rattle.grid_wire.specs.LinkBytes.{encode_link, FitsLink}
 use Rattle.grid_wire.specs.MergeBytes.{encode_merges, FitsMerges}
 use Rattle.base_wire.specs.MapBytes.{encode_map, FitsMap}
-use Rattle.rule_wire.specs.FormattingBytes.{encode_formatting, FitsFormatting, IsKnownFormatting}
+use Rattle.grid_wire.specs.FormattingBytes.{encode_formatting, FitsFormatting, IsKnownFormatting}
 use Rattle.grid_wire.specs.LineBytes.{encode_line, FitsLine}
 use Rattle.lines_wire.specs.PartBytes.{encode_sheet_place, FitsSheetPlace}
 

@@ -20,7 +20,7 @@ use formula_tree::Node;
 use formula_wire::NodePart;
 use grid_wire::LinePart;
 use base_wire::MapPart;
-use rule_wire::FormattingPart;
+use grid_wire::FormattingPart;
 use sheet_grid::{Cell, LineAttr, Link};
 use sheet_lines::KeptLines;
 use std::alloc::{AllocError, Global};

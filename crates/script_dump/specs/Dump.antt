@@ -31,7 +31,7 @@ use Rattle.sheet_grid.specs.declared.SheetState.{SheetState}
 use Rattle.sheet_grid.specs.declared.SheetState.TheVariants.{Visible, Hidden, VeryHidden}
 use Rattle.grid_wire.specs.StyleBytes.{encode_style}
 use Rattle.format_rules.specs.declared.ConditionalFormatting.{ConditionalFormatting}
-use Rattle.rule_wire.specs.RuleBytes.{encode_rule}
+use Rattle.grid_wire.specs.RuleBytes.{encode_rule}
 use Rattle.script_lines.specs.Escapes.{escaped}
 use Rattle.script_lines.specs.References.{reference_text}
 use Rattle.cell_input.specs.Inputs.{input_text}

@@ -3,7 +3,7 @@
 ghost use Rattle.std.specs.Prelude.{◌≡◌, ◌++◌, ◌∷◌, [], codes, decimal, OnOk, IsOkUnless};
 ghost use Rattle.std.specs.List.{flat_map};
 ghost use Rattle.base_values.specs.declared.error.EditError.TheVariants.{NoMemory};
-ghost use Rattle.rule_wire.specs.RuleBytes.{encode_rule};
+ghost use Rattle.grid_wire.specs.RuleBytes.{encode_rule};
 ghost use Rattle.script_dump.specs.Text.{hex};
 ghost use Rattle.script_dump.specs.Dump.{areas_text, later_area, rule_line};
 
@@ -12,7 +12,7 @@ use crate::text::{push_hex, push_unsigned};
 use base_axis::MergedCell;
 use base_values::EditError;
 use format_rules::{CfRule, ConditionalFormatting};
-use rule_wire::encode_rule;
+use grid_wire::encode_rule;
 use sheet_grid::Worksheet;
 use std::alloc::{AllocError, Global};
 

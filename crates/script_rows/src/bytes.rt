@@ -10,7 +10,7 @@ use base_wire::Part;
 use grid_wire::{NamePart, SheetPart};
 use lines_wire::{EditPart, KeptLinesPart};
 use base_wire::MapPart;
-use rule_wire::RulePart;
+use grid_wire::RulePart;
 use script_dump::{push_hex, push_line};
 use sheet_wire::{DiffPart, decode_queue};
 use std::alloc::Global;

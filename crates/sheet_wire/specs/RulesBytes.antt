@@ -3,7 +3,7 @@ use Rattle.std.specs.Prelude.{ℕ, ◌<◌, ◌^◌, List, ◌++◌, IfSome}
 use Rattle.std.specs.Int.{w32, w64, to_be_bytes}
 use Rattle.rule_edits.specs.declared.RuleChange.{RuleChange}
 use Rattle.base_wire.specs.Encoding.{encode_option}
-use Rattle.rule_wire.specs.FormattingBytes.{encode_formatting, FitsFormatting, IsKnownFormatting}
+use Rattle.grid_wire.specs.FormattingBytes.{encode_formatting, FitsFormatting, IsKnownFormatting}
 
 -- the index of the rule, the old one, and the new one
 unfoldable pub encode_rule_change : RuleChange → List ℕ

@@ -10,7 +10,7 @@ use base_styles::Style;
 use base_values::EditError;
 use base_wire::{Part, read};
 use rule_edits::RuleChange;
-use rule_wire::FormattingPart;
+use grid_wire::FormattingPart;
 use sheet_history::Diff;
 use std::alloc::{AllocError, Global};
 

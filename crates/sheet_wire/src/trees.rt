@@ -16,7 +16,7 @@ use formula_tree::Node;
 use formula_wire::NodePart;
 use lines_wire::{FormulasPart, SheetIndexPart};
 use base_wire::MapPart;
-use rule_wire::FormattingPart;
+use grid_wire::FormattingPart;
 use std::alloc::{AllocError, Global};
 
 type RulesPart = MapPart<SheetIndexKeys<ConditionalFormatting>, SheetIndexPart, FormattingPart>;

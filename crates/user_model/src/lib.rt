@@ -27,7 +27,7 @@ pub use format_rules::{
 pub use name_lists::{DefinedNames, ScopedName};
 pub use open_book::{ClearAll, Recalc, edits_go_both_ways};
 pub use properties::SheetProperties;
-pub use rule_wire::encode_rule;
+pub use grid_wire::encode_rule;
 pub use sheet_actions::Model;
 pub use sheet_grid::{
     Cell, Computed, ComputedValue, Content, Link, SheetState, Workbook, Worksheet,

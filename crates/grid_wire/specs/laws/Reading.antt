@@ -22,7 +22,7 @@ use Rattle.format_rules.specs.declared.ConditionalFormatting.{ConditionalFormatt
 use Rattle.sheet_grid.specs.Sheet.{Sheet, new_sheet}
 use Rattle.sheet_grid.specs.declared.Cell.{Cell}
 use Rattle.sheet_grid.specs.declared.Link.{Link}
-use Rattle.rule_wire.specs.laws.RuleReading.{formattings_at}
+use Rattle.grid_wire.specs.laws.RuleReading.{formattings_at}
 use Rattle.grid_wire.specs.StateBytes.{state_code}
 
 -- ---- states

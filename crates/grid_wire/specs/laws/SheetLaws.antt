@@ -13,7 +13,7 @@ use Rattle.grid_wire.specs.CellBytes.{encode_position, encode_cell, FitsCell}
 use Rattle.grid_wire.specs.LinkBytes.{encode_link, FitsLink}
 use Rattle.grid_wire.specs.laws.CellFormats.{color_format, cell_format}
 use Rattle.grid_wire.specs.laws.MergeLaws.{link_format, merges_format}
-use Rattle.rule_wire.specs.laws.FormattingLaws.{formattings_format}
+use Rattle.grid_wire.specs.laws.FormattingLaws.{formattings_format}
 use Rattle.grid_wire.specs.LineBytes.{encode_line, FitsLine}
 use Rattle.grid_wire.specs.SheetBytes.{encode_fields, FitsFields, encode_entries, encode_sheet, FitsSheet}
 use Rattle.grid_wire.specs.laws.Reading.{Fields, bare_sheet, fields_at, rows_at, columns_at, cells_at, links_at, sheet_made, sheet_at}

@@ -11,8 +11,8 @@ use Rattle.formula_wire.specs.Carried.{FitsNode}
 use Rattle.formula_wire.specs.laws.CanonicalLaws.{canonical_from_carried}
 use Rattle.grid_wire.specs.CellBytes.{FitsCell, FitsPosition}
 use Rattle.grid_wire.specs.laws.Fitting.{canonical_cell_from_fits}
-use Rattle.rule_wire.specs.FormattingBytes.{FitsFormatting}
-use Rattle.rule_wire.specs.laws.KnownLaws.{canonical_from_fits}
+use Rattle.grid_wire.specs.FormattingBytes.{FitsFormatting}
+use Rattle.grid_wire.specs.laws.KnownLaws.{canonical_from_fits}
 use Rattle.lines_wire.specs.PartBytes.{FitsSheetPlace}
 use Rattle.base_wire.specs.MapBytes.{FitsMap}
 use Rattle.base_wire.specs.laws.MapFits.{values_hold}

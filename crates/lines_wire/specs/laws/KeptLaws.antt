@@ -26,8 +26,8 @@ use Rattle.base_wire.specs.MapBytes.{encode_map, FitsMap}
 use Rattle.grid_wire.specs.LineBytes.{encode_line, FitsLine}
 use Rattle.lines_wire.specs.PartBytes.{encode_sheet_place, FitsSheetPlace}
 use Rattle.base_wire.specs.laws.MapLaws.{map_format}
-use Rattle.rule_wire.specs.FormattingBytes.{encode_formatting, FitsFormatting}
-use Rattle.rule_wire.specs.laws.FormattingLaws.{formatting_format}
+use Rattle.grid_wire.specs.FormattingBytes.{encode_formatting, FitsFormatting}
+use Rattle.grid_wire.specs.laws.FormattingLaws.{formatting_format}
 use Rattle.grid_wire.specs.laws.LineLaws.{line_format}
 use Rattle.lines_wire.specs.laws.PartLaws.{sheet_place_format, sheet_place_some}
 use Rattle.lines_wire.specs.KeptBytes.{encode_kept, FitsKept}

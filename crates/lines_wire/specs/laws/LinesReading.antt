@@ -21,7 +21,7 @@ use Rattle.sheet_grid.specs.declared.LineAttr.{LineAttr}
 use Rattle.sheet_lines.specs.declared.KeptLines.{KeptLines}
 use Rattle.formula_wire.specs.laws.Reading.{node_at}
 use Rattle.base_wire.specs.laws.MapReading.{map_of_at}
-use Rattle.rule_wire.specs.laws.RuleReading.{formatting_at}
+use Rattle.grid_wire.specs.laws.RuleReading.{formatting_at}
 use Rattle.grid_wire.specs.laws.Reading.{line_at}
 
 -- ---- edits

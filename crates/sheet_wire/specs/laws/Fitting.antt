@@ -30,8 +30,8 @@ use Rattle.formula_wire.specs.Carried.{FitsNode, IsKnownNode}
 use Rattle.formula_wire.specs.laws.CanonicalLaws.{canonical_from_carried}
 use Rattle.grid_wire.specs.CellBytes.{FitsCell, IsKnownCell}
 use Rattle.grid_wire.specs.laws.Fitting.{canonical_cell_from_fits}
-use Rattle.rule_wire.specs.FormattingBytes.{FitsFormatting, IsKnownFormatting, AreKnownFormattings}
-use Rattle.rule_wire.specs.laws.KnownLaws.{canonical_rules_from_fit, rule_known}
+use Rattle.grid_wire.specs.FormattingBytes.{FitsFormatting, IsKnownFormatting, AreKnownFormattings}
+use Rattle.grid_wire.specs.laws.KnownLaws.{canonical_rules_from_fit, rule_known}
 use Rattle.lines_wire.specs.PartBytes.{FitsSheetIndex}
 use Rattle.lines_wire.specs.laws.KeptFits.{canonical_formatting_from_fits, formulas_from_fits, kept_lines_from_fits}
 use Rattle.base_wire.specs.laws.MapFits.{values_hold}

@@ -14,7 +14,7 @@ use Rattle.lines_wire.specs.laws.LinesReading.{edit_at, kept_at, sheet_index_at,
 use Rattle.sheet_history.specs.declared.SettingChange.TheVariants as setting
 use Rattle.format_rules.specs.declared.ConditionalFormatting.{ConditionalFormatting}
 use Rattle.rule_edits.specs.declared.RuleChange.{RuleChange}
-use Rattle.rule_wire.specs.laws.RuleReading.{formatting_at}
+use Rattle.grid_wire.specs.laws.RuleReading.{formatting_at}
 use Rattle.std.specs.Ordering.{nat_cmp}
 use Rattle.std.specs.FinMap.{FinMap}
 use Rattle.base_maps.specs.SheetPlaces.{sheet_place_cmp}

@@ -5,7 +5,7 @@ use Rattle.base_wire.specs.Encoding.{Both, encode_both}
 use Rattle.base_wire.specs.laws.Format.{Format, option_format}
 use Rattle.base_wire.specs.laws.Formats.{both_format, made_format}
 use Rattle.base_wire.specs.laws.Parts.{long_format, short_format}
-use Rattle.rule_wire.specs.laws.FormattingLaws.{formatting_format}
+use Rattle.grid_wire.specs.laws.FormattingLaws.{formatting_format}
 use Rattle.sheet_wire.specs.RulesBytes.{encode_rule_change, FitsRuleChange}
 use Rattle.sheet_wire.specs.laws.Reading.{rule_there_at, rule_change_made, rule_change_at, rule_parts_at}
 use Rattle.sheet_wire.specs.laws.SheetsFormats.{IsShort, encode_short}

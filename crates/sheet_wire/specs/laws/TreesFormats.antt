@@ -19,8 +19,8 @@ use Rattle.base_wire.specs.MapBytes.{encode_map, FitsMap}
 use Rattle.base_wire.specs.laws.MapLaws.{map_format}
 use Rattle.grid_wire.specs.NameBytes.{encode_name, FitsName}
 use Rattle.grid_wire.specs.laws.NameLaws.{name_format}
-use Rattle.rule_wire.specs.FormattingBytes.{encode_formatting, FitsFormatting}
-use Rattle.rule_wire.specs.laws.FormattingLaws.{formatting_format}
+use Rattle.grid_wire.specs.FormattingBytes.{encode_formatting, FitsFormatting}
+use Rattle.grid_wire.specs.laws.FormattingLaws.{formatting_format}
 use Rattle.lines_wire.specs.PartBytes.{encode_sheet_index, FitsSheetIndex}
 use Rattle.lines_wire.specs.laws.PartLaws.{sheet_index_format, sheet_index_some}
 use Rattle.lines_wire.specs.laws.KeptLaws.{formulas_format}

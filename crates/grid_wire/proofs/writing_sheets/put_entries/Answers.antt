@@ -6,7 +6,7 @@ use Rattle.base_values.specs.Places.{IsPlace, IsRow, IsColumn, position_cmp}
 use Rattle.base_values.specs.declared.Position.{Position}
 use Rattle.base_wire.specs.Encoding.{Any}
 use Rattle.format_rules.specs.declared.ConditionalFormatting.{ConditionalFormatting}
-use Rattle.rule_wire.specs.FormattingBytes.{FitsFormattings, AreKnownFormattings}
+use Rattle.grid_wire.specs.FormattingBytes.{FitsFormattings, AreKnownFormattings}
 use Rattle.sheet_grid.specs.declared.Cell.{Cell}
 use Rattle.sheet_grid.specs.declared.LineAttr.{LineAttr}
 use Rattle.sheet_grid.specs.declared.Link.{Link}

@@ -1,0 +1,7 @@
+use Rattle.std.proofs.Common.{arith}
+use Rattle.base_wire.specs.laws.Format.{reads}
+use Rattle.grid_wire.specs.laws.ThresholdLaws.{color_threshold_format}
+use Rattle.grid_wire.proofs.thresholds.ColorThresholdPartPart.take.Goals as goal
+
+pub returns : goal.returns
+returns c = reads color_threshold_format c.args.bytes.now _ (λ i. omega (arith, c.type_inv.bytes i)) c.color_threshold_at.ensures

@@ -1,0 +1,39 @@
+-- The bytes of rules with their parts and priorities.
+use Rattle.std.specs.Prelude.{ℕ, ◌<◌, ◌^◌, List, ◌++◌}
+use Rattle.std.specs.List.{AllByRecursion}
+use Rattle.std.specs.Int.{w32, to_be_bytes}
+use Rattle.base_axis.specs.declared.MergedCell.{MergedCell}
+use Rattle.format_rules.specs.declared.ConditionalFormatting.{ConditionalFormatting}
+use Rattle.base_wire.specs.Encoding.{encode_list, FitsItems}
+use Rattle.grid_wire.specs.MergeBytes.{encode_merge, FitsMerge}
+use Rattle.grid_wire.specs.RuleBytes.{encode_rule, FitsRule, IsKnownRule}
+
+-- the parts of a rule, in their order
+abbrev pub encode_areas : List MergedCell → List ℕ
+encode_areas = encode_list encode_merge
+
+abbrev pub FitsAreas : List MergedCell → Type 0
+FitsAreas = FitsItems FitsMerge
+
+-- the parts, the rule, and the priority
+abbrev pub encode_formatting : ConditionalFormatting → List ℕ
+encode_formatting formatting = encode_areas formatting.parts ++ (encode_rule formatting.rule ++ to_be_bytes w32 formatting.priority)
+
+-- parts of numbers of 32 bits, a rule that bytes can carry, and a priority of 32 bits
+pub record FitsFormatting (formatting : ConditionalFormatting) : Type 0 where
+  pub parts : FitsAreas formatting.parts
+  pub rule : FitsRule formatting.rule
+  pub priority : formatting.priority < 2 ^ 32
+
+abbrev pub IsKnownFormatting : ConditionalFormatting → Type 0
+IsKnownFormatting formatting = IsKnownRule formatting.rule
+
+-- the rules of a sheet, in their order
+abbrev pub encode_formattings : List ConditionalFormatting → List ℕ
+encode_formattings = encode_list encode_formatting
+
+abbrev pub FitsFormattings : List ConditionalFormatting → Type 0
+FitsFormattings = FitsItems FitsFormatting
+
+abbrev pub AreKnownFormattings : List ConditionalFormatting → Type 0
+AreKnownFormattings = AllByRecursion IsKnownFormatting

@@ -1,4 +1,0 @@
-pub mod ThresholdBytes
-pub mod RuleBytes
-pub mod FormattingBytes
-pub mod laws

@@ -1,5 +1,0 @@
-pub mod RuleReading
-pub mod ThresholdLaws
-pub mod RuleLaws
-pub mod FormattingLaws
-pub mod KnownLaws

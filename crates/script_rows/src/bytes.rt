@@ -8,7 +8,7 @@ use base_tables::Error;
 use base_values::{EditError, Text};
 use base_wire::Part;
 use grid_wire::{NamePart, SheetPart};
-use lines_wire::{EditPart, KeptLinesPart};
+use sheet_wire::{EditPart, KeptLinesPart};
 use base_wire::MapPart;
 use grid_wire::RulePart;
 use script_dump::{push_hex, push_line};

@@ -1,3 +1,6 @@
+pub mod PartBytes
+pub mod EditBytes
+pub mod KeptBytes
 pub mod AttrBytes
 pub mod LinesBytes
 pub mod SheetsBytes

@@ -6,8 +6,8 @@ use Rattle.sheet_lines.specs.declared.KeptLines.{KeptLines}
 use Rattle.sheet_history.specs.declared.LineAxis.{LineAxis}
 use Rattle.sheet_history.specs.declared.LineAxis.TheVariants.{Rows, Columns}
 use Rattle.base_wire.specs.Encoding.{encode_code}
-use Rattle.lines_wire.specs.EditBytes.{encode_edit, FitsEdit}
-use Rattle.lines_wire.specs.KeptBytes.{encode_kept, FitsKept}
+use Rattle.sheet_wire.specs.EditBytes.{encode_edit, FitsEdit}
+use Rattle.sheet_wire.specs.KeptBytes.{encode_kept, FitsKept}
 
 -- rows or columns
 abbrev pub axis_code : LineAxis → ℕ

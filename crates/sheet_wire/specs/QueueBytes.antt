@@ -16,7 +16,7 @@ use Rattle.grid_wire.specs.CellBytes.{encode_cell, FitsCell, IsKnownCell}
 use Rattle.grid_wire.specs.LinkBytes.{encode_link, FitsLink}
 use Rattle.grid_wire.specs.MergeBytes.{encode_merges, FitsMerges}
 use Rattle.grid_wire.specs.LineBytes.{IsKnownLine}
-use Rattle.lines_wire.specs.KeptBytes.{IsKnownKept}
+use Rattle.sheet_wire.specs.KeptBytes.{IsKnownKept}
 use Rattle.sheet_wire.specs.AttrBytes.{encode_attr_change, FitsAttrChange}
 use Rattle.sheet_wire.specs.ChangeBytes.{encode_change, FitsChange, encode_sheet_change, FitsSheetChange}
 use Rattle.sheet_wire.specs.LinesBytes.{encode_lines, FitsLines}

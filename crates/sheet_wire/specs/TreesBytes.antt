@@ -12,7 +12,7 @@ use Rattle.formula_wire.specs.Carried.{FitsNode, IsKnownNode}
 use Rattle.base_wire.specs.MapBytes.{encode_map, FitsMap}
 use Rattle.grid_wire.specs.NameBytes.{encode_name, FitsName, IsKnownName}
 use Rattle.grid_wire.specs.FormattingBytes.{encode_formatting, FitsFormatting, IsKnownFormatting}
-use Rattle.lines_wire.specs.PartBytes.{encode_sheet_place, FitsSheetPlace, encode_sheet_index, FitsSheetIndex}
+use Rattle.sheet_wire.specs.PartBytes.{encode_sheet_place, FitsSheetPlace, encode_sheet_index, FitsSheetIndex}
 
 -- ---- kept trees
 

@@ -1,3 +1,8 @@
+pub mod LinesReading
+pub mod EditLaws
+pub mod KeptFits
+pub mod KeptLaws
+pub mod PartLaws
 pub mod Reading
 pub mod QueueLaws
 pub mod QueueFormats

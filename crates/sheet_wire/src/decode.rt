@@ -24,7 +24,7 @@ use base_styles::Style;
 use base_values::{EditError, Items, Position};
 use base_wire::{Part, read};
 use grid_wire::{CellPart, LinkPart, MergeListPart, PositionPart};
-use lines_wire::{EditPart, KeptLinesPart};
+use crate::{EditPart, KeptLinesPart};
 use sheet_history::{Diff, DiffType, LineAxis, QueueDiffs};
 use std::alloc::Global;
 

@@ -2,7 +2,7 @@
 
 ghost use Rattle.std.specs.Prelude.{◌≡◌, ◌++◌, OnOk, IfOk, IfSome, IsOkUnless};
 ghost use Rattle.base_values.specs.declared.EditError.TheVariants.{NoMemory};
-ghost use Rattle.lines_wire.specs.KeptBytes.{IsKnownKept};
+ghost use Rattle.sheet_wire.specs.KeptBytes.{IsKnownKept};
 ghost use Rattle.sheet_wire.specs.ChangeBytes.{encode_change, FitsChange};
 ghost use Rattle.sheet_wire.specs.LinesBytes.{encode_lines, FitsLines};
 ghost use Rattle.sheet_wire.specs.QueueBytes.{encode_diff, encode_entry, encode_queue, FitsDiff, FitsEntry, FitsQueue, IsKnownDiff, IsKnownEntry, IsKnownQueue};
@@ -21,7 +21,7 @@ use base_values::{EditError, Items, Position};
 use base_wire::{Part, put_items};
 use grid_wire::{CellPart, LinkPart, MergeListPart, PositionPart};
 use line_map::EditKind;
-use lines_wire::{EditPart, KeptLinesPart};
+use crate::{EditPart, KeptLinesPart};
 use sheet_history::{Diff, LineAxis, QueueDiffs};
 use sheet_lines::KeptLines;
 use std::alloc::{AllocError, Global};

@@ -14,7 +14,7 @@ use book_names::KeptTrees;
 use format_rules::ConditionalFormatting;
 use formula_tree::Node;
 use formula_wire::NodePart;
-use lines_wire::{FormulasPart, SheetIndexPart};
+use crate::{FormulasPart, SheetIndexPart};
 use base_wire::MapPart;
 use grid_wire::FormattingPart;
 use std::alloc::{AllocError, Global};
@@ -23,7 +23,7 @@ type RulesPart = MapPart<SheetIndexKeys<ConditionalFormatting>, SheetIndexPart, 
 
 type NameTreesPart = MapPart<IndexKeys<Shared<Node>>, u64, Shared<NodePart>>;
 
-#[tactic(auto, unfolding(crate::specs::laws::Reading::trees_at, crate::specs::laws::Reading::name_trees_at, crate::specs::laws::Reading::renamed_rules_at, lines_wire::specs::laws::LinesReading::formulas_at))]
+#[tactic(auto, unfolding(crate::specs::laws::Reading::trees_at, crate::specs::laws::Reading::name_trees_at, crate::specs::laws::Reading::renamed_rules_at, crate::specs::laws::LinesReading::formulas_at))]
 fn trees_at<'a>(
     alloc: Global,
     plain: &Shared<Style>,

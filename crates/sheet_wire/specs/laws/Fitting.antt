@@ -32,8 +32,8 @@ use Rattle.grid_wire.specs.CellBytes.{FitsCell, IsKnownCell}
 use Rattle.grid_wire.specs.laws.Fitting.{canonical_cell_from_fits}
 use Rattle.grid_wire.specs.FormattingBytes.{FitsFormatting, IsKnownFormatting, AreKnownFormattings}
 use Rattle.grid_wire.specs.laws.KnownLaws.{canonical_rules_from_fit, rule_known}
-use Rattle.lines_wire.specs.PartBytes.{FitsSheetIndex}
-use Rattle.lines_wire.specs.laws.KeptFits.{canonical_formatting_from_fits, formulas_from_fits, kept_lines_from_fits}
+use Rattle.sheet_wire.specs.PartBytes.{FitsSheetIndex}
+use Rattle.sheet_wire.specs.laws.KeptFits.{canonical_formatting_from_fits, formulas_from_fits, kept_lines_from_fits}
 use Rattle.base_wire.specs.laws.MapFits.{values_hold}
 use Rattle.grid_wire.specs.NameBytes.{FitsName, IsKnownName}
 use Rattle.grid_wire.specs.laws.GridFits.{canonical_cells_from_fits, canonical_name_from_fits}

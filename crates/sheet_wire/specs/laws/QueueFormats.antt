@@ -25,10 +25,10 @@ use Rattle.grid_wire.specs.LinkBytes.{encode_link}
 use Rattle.grid_wire.specs.MergeBytes.{encode_merges}
 use Rattle.grid_wire.specs.laws.CellFormats.{color_format, position_format, cell_format}
 use Rattle.grid_wire.specs.laws.MergeLaws.{link_format, merges_format}
-use Rattle.lines_wire.specs.EditBytes.{encode_edit, FitsEdit}
-use Rattle.lines_wire.specs.KeptBytes.{encode_kept, FitsKept}
-use Rattle.lines_wire.specs.laws.EditLaws.{edit_format}
-use Rattle.lines_wire.specs.laws.KeptLaws.{kept_format}
+use Rattle.sheet_wire.specs.EditBytes.{encode_edit, FitsEdit}
+use Rattle.sheet_wire.specs.KeptBytes.{encode_kept, FitsKept}
+use Rattle.sheet_wire.specs.laws.EditLaws.{edit_format}
+use Rattle.sheet_wire.specs.laws.KeptLaws.{kept_format}
 use Rattle.sheet_wire.specs.ChangeBytes.{encode_change, encode_sheet_change}
 use Rattle.sheet_wire.specs.laws.Reading.{standing_at, change_at, sheet_change_at, axes, lines_parts_at, state_at, new_parts_at, copy_parts_at, deletion_parts_at, move_parts_at, rule_parts_at, rename_parts_at, name_parts_at, attr_parts_at, rename_diff_made, rename_diff_at, name_diff_made, name_diff_at, move_diff_made, move_diff_at, color_diff_made, color_diff_at, state_diff_made, state_diff_at, grid_diff_made, grid_diff_at, attr_diff_made, attr_diff_at, frozen_rows_diff_made, frozen_rows_diff_at, frozen_columns_diff_made, frozen_columns_diff_at, pair_at, theme_diff_made, theme_diff_at, title_diff_made, title_diff_at, locale_diff_made, locale_diff_at, zone_diff_made, zone_diff_at, cell_diff_made, cell_diff_at, link_diff_made, link_diff_at, merges_diff_made, merges_diff_at, rule_diff_made, rule_diff_at, lines_diff_made, lines_diff_at, new_diff_made, new_diff_at, copy_diff_made, copy_diff_at, deletion_diff_made, deletion_diff_at, diff_of, diff_at, directions, entry_made, list_of_diffs_at, entry_at}
 use Rattle.sheet_wire.specs.LinesBytes.{axis_code, encode_lines}

@@ -10,7 +10,7 @@ use Rattle.line_edits.specs.declared.EditKind.{EditKind}
 use Rattle.sheet_lines.specs.declared.KeptLines.{KeptLines}
 use Rattle.sheet_history.specs.declared.LineAxis.{LineAxis}
 use Rattle.sheet_history.specs.declared.LineAxis.TheVariants.{Rows, Columns}
-use Rattle.lines_wire.specs.laws.LinesReading.{edit_at, kept_at, sheet_index_at, formulas_at}
+use Rattle.sheet_wire.specs.laws.LinesReading.{edit_at, kept_at, sheet_index_at, formulas_at}
 use Rattle.sheet_history.specs.declared.SettingChange.TheVariants as setting
 use Rattle.format_rules.specs.declared.ConditionalFormatting.{ConditionalFormatting}
 use Rattle.rule_edits.specs.declared.RuleChange.{RuleChange}

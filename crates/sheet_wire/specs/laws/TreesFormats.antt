@@ -21,9 +21,9 @@ use Rattle.grid_wire.specs.NameBytes.{encode_name, FitsName}
 use Rattle.grid_wire.specs.laws.NameLaws.{name_format}
 use Rattle.grid_wire.specs.FormattingBytes.{encode_formatting, FitsFormatting}
 use Rattle.grid_wire.specs.laws.FormattingLaws.{formatting_format}
-use Rattle.lines_wire.specs.PartBytes.{encode_sheet_index, FitsSheetIndex}
-use Rattle.lines_wire.specs.laws.PartLaws.{sheet_index_format, sheet_index_some}
-use Rattle.lines_wire.specs.laws.KeptLaws.{formulas_format}
+use Rattle.sheet_wire.specs.PartBytes.{encode_sheet_index, FitsSheetIndex}
+use Rattle.sheet_wire.specs.laws.PartLaws.{sheet_index_format, sheet_index_some}
+use Rattle.sheet_wire.specs.laws.KeptLaws.{formulas_format}
 use Rattle.sheet_wire.specs.TreesBytes.{encode_trees, FitsTrees}
 use Rattle.sheet_wire.specs.laws.Reading.{name_trees_at, renamed_rules_at, trees_made, trees_at, rename_parts_at, name_there_at, name_parts_at}
 use Rattle.sheet_wire.specs.laws.SheetsFormats.{IsShort, encode_short}

@@ -15,7 +15,7 @@ use Rattle.grid_wire.specs.MergeBytes.{encode_merges, FitsMerges}
 use Rattle.base_wire.specs.MapBytes.{encode_map, FitsMap}
 use Rattle.grid_wire.specs.FormattingBytes.{encode_formatting, FitsFormatting, IsKnownFormatting}
 use Rattle.grid_wire.specs.LineBytes.{encode_line, FitsLine}
-use Rattle.lines_wire.specs.PartBytes.{encode_sheet_place, FitsSheetPlace}
+use Rattle.sheet_wire.specs.PartBytes.{encode_sheet_place, FitsSheetPlace}
 
 -- ---- what line edits keep
 

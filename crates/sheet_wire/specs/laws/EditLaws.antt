@@ -12,8 +12,8 @@ use Rattle.base_wire.specs.laws.Formats.{both_format}
 use Rattle.base_wire.specs.laws.Parts.{signed_format}
 use Rattle.base_wire.specs.laws.Refusals.{IsPlain, map_plain, if_plain, refused_plain, tagged_plain}
 use Rattle.base_wire.specs.laws.Encoded.{ReadsEncoded, tag_map, tag_if, tag_refused, tagged_encoded}
-use Rattle.lines_wire.specs.EditBytes.{encode_number, encode_block, encode_move, encode_edit, FitsEdit}
-use Rattle.lines_wire.specs.laws.LinesReading.{insertion, deletion, move, block_at, move_at, edit_of, edit_at}
+use Rattle.sheet_wire.specs.EditBytes.{encode_number, encode_block, encode_move, encode_edit, FitsEdit}
+use Rattle.sheet_wire.specs.laws.LinesReading.{insertion, deletion, move, block_at, move_at, edit_of, edit_at}
 
 number_format : Format (FitsSigned w32) encode_number (signed_at w32)
 unfolding encode_number

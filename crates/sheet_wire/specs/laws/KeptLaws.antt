@@ -24,14 +24,14 @@ use Rattle.grid_wire.specs.MergeBytes.{encode_merges, FitsMerges}
 use Rattle.grid_wire.specs.laws.MergeLaws.{link_format, merges_format}
 use Rattle.base_wire.specs.MapBytes.{encode_map, FitsMap}
 use Rattle.grid_wire.specs.LineBytes.{encode_line, FitsLine}
-use Rattle.lines_wire.specs.PartBytes.{encode_sheet_place, FitsSheetPlace}
+use Rattle.sheet_wire.specs.PartBytes.{encode_sheet_place, FitsSheetPlace}
 use Rattle.base_wire.specs.laws.MapLaws.{map_format}
 use Rattle.grid_wire.specs.FormattingBytes.{encode_formatting, FitsFormatting}
 use Rattle.grid_wire.specs.laws.FormattingLaws.{formatting_format}
 use Rattle.grid_wire.specs.laws.LineLaws.{line_format}
-use Rattle.lines_wire.specs.laws.PartLaws.{sheet_place_format, sheet_place_some}
-use Rattle.lines_wire.specs.KeptBytes.{encode_kept, FitsKept}
-use Rattle.lines_wire.specs.laws.LinesReading.{cells_at, links_at, lines_at, formulas_at, kept_merges_at, kept_rules_at, kept_made, kept_at}
+use Rattle.sheet_wire.specs.laws.PartLaws.{sheet_place_format, sheet_place_some}
+use Rattle.sheet_wire.specs.KeptBytes.{encode_kept, FitsKept}
+use Rattle.sheet_wire.specs.laws.LinesReading.{cells_at, links_at, lines_at, formulas_at, kept_merges_at, kept_rules_at, kept_made, kept_at}
 
 -- ---- maps
 

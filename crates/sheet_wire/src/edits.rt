@@ -3,8 +3,8 @@
 ghost use Rattle.std.specs.Prelude.{◌≡◌, ◌++◌, OnOk, FitsSigned};
 ghost use Rattle.std.specs.Int.{w32};
 ghost use Rattle.base_values.specs.Answers.{Answers, map_ok};
-ghost use Rattle.lines_wire.specs.EditBytes.{encode_block, encode_edit, encode_number, FitsBlock, FitsEdit};
-ghost use Rattle.lines_wire.specs.laws.LinesReading.{block_at, edit_at};
+ghost use Rattle.sheet_wire.specs.EditBytes.{encode_block, encode_edit, encode_number, FitsBlock, FitsEdit};
+ghost use Rattle.sheet_wire.specs.laws.LinesReading.{block_at, edit_at};
 
 use base_values::EditError;
 use base_wire::{Part, read};
@@ -97,9 +97,9 @@ pub struct EditPart;
 
 impl Part for EditPart {
     ghost use Rattle.base_wire.specs.Encoding.{Any};
-    ghost use Rattle.lines_wire.specs.EditBytes.{encode_edit, FitsEdit};
-    ghost use Rattle.lines_wire.specs.laws.LinesReading.{edit_at};
-    ghost use Rattle.lines_wire.specs.laws.EditLaws.{edit_format, edit_some};
+    ghost use Rattle.sheet_wire.specs.EditBytes.{encode_edit, FitsEdit};
+    ghost use Rattle.sheet_wire.specs.laws.LinesReading.{edit_at};
+    ghost use Rattle.sheet_wire.specs.laws.EditLaws.{edit_format, edit_some};
 
     type Value = EditKind;
 

@@ -4,8 +4,8 @@ ghost use Rattle.std.specs.Prelude.{◌≡◌, ◌++◌, IfSome, OnOk};
 ghost use Rattle.base_values.specs.Answers.{Answers, map_ok};
 ghost use Rattle.base_wire.specs.Encoding.{encode_option};
 ghost use Rattle.grid_wire.specs.MergeBytes.{encode_merges, FitsMerges};
-ghost use Rattle.lines_wire.specs.KeptBytes.{encode_kept, FitsKept, IsKnownKept};
-ghost use Rattle.lines_wire.specs.laws.LinesReading.{kept_at};
+ghost use Rattle.sheet_wire.specs.KeptBytes.{encode_kept, FitsKept, IsKnownKept};
+ghost use Rattle.sheet_wire.specs.laws.LinesReading.{kept_at};
 
 use crate::values::SheetPlacePart;
 use base_axis::MergeList;
@@ -91,9 +91,9 @@ fn kept_at<'a>(
 pub struct KeptLinesPart;
 
 impl Part for KeptLinesPart {
-    ghost use Rattle.lines_wire.specs.KeptBytes.{encode_kept, FitsKept, IsKnownKept};
-    ghost use Rattle.lines_wire.specs.laws.LinesReading.{kept_at};
-    ghost use Rattle.lines_wire.specs.laws.KeptLaws.{kept_format, kept_some};
+    ghost use Rattle.sheet_wire.specs.KeptBytes.{encode_kept, FitsKept, IsKnownKept};
+    ghost use Rattle.sheet_wire.specs.laws.LinesReading.{kept_at};
+    ghost use Rattle.sheet_wire.specs.laws.KeptLaws.{kept_format, kept_some};
 
     type Value = KeptLines;
 

@@ -13,10 +13,10 @@ use Rattle.grid_wire.specs.CellBytes.{FitsCell, FitsPosition}
 use Rattle.grid_wire.specs.laws.Fitting.{canonical_cell_from_fits}
 use Rattle.grid_wire.specs.FormattingBytes.{FitsFormatting}
 use Rattle.grid_wire.specs.laws.KnownLaws.{canonical_from_fits}
-use Rattle.lines_wire.specs.PartBytes.{FitsSheetPlace}
+use Rattle.sheet_wire.specs.PartBytes.{FitsSheetPlace}
 use Rattle.base_wire.specs.MapBytes.{FitsMap}
 use Rattle.base_wire.specs.laws.MapFits.{values_hold}
-use Rattle.lines_wire.specs.KeptBytes.{FitsKept}
+use Rattle.sheet_wire.specs.KeptBytes.{FitsKept}
 
 -- the numbers of trees that bytes can carry are canonical
 pub formulas_from_fits : (formulas : FinMap sheet_place_cmp Node) → FitsMap FitsSheetPlace FitsNode formulas → AreCanonicalFormulas formulas

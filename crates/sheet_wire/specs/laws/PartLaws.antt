@@ -6,8 +6,8 @@ use Rattle.base_wire.specs.laws.Format.{Format}
 use Rattle.base_wire.specs.laws.Formats.{both_format, made_format}
 use Rattle.base_wire.specs.laws.Parts.{long_format, short_format}
 use Rattle.grid_wire.specs.laws.CellFormats.{position_format}
-use Rattle.lines_wire.specs.PartBytes.{encode_sheet_place, FitsSheetPlace, encode_sheet_index, FitsSheetIndex}
-use Rattle.lines_wire.specs.laws.LinesReading.{sheet_place_made, sheet_place_at, sheet_index_made, sheet_index_at}
+use Rattle.sheet_wire.specs.PartBytes.{encode_sheet_place, FitsSheetPlace, encode_sheet_index, FitsSheetIndex}
+use Rattle.sheet_wire.specs.laws.LinesReading.{sheet_place_made, sheet_place_at, sheet_index_made, sheet_index_at}
 
 pub sheet_place_format : Format FitsSheetPlace encode_sheet_place sheet_place_at
 unfolding sheet_place_at

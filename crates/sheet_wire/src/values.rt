@@ -1,7 +1,7 @@
 //! Places of a workbook, and indexes of lists of its sheets, as parts of formats.
 
 ghost use Rattle.base_values.specs.Answers.{Answers, map_ok};
-ghost use Rattle.lines_wire.specs.laws.LinesReading.{sheet_index_at, sheet_place_at};
+ghost use Rattle.sheet_wire.specs.laws.LinesReading.{sheet_index_at, sheet_place_at};
 
 use base_maps::{SheetIndex, SheetPlace};
 use base_values::EditError;
@@ -23,9 +23,9 @@ pub struct SheetPlacePart;
 
 impl Part for SheetPlacePart {
     ghost use Rattle.base_wire.specs.Encoding.{Any};
-    ghost use Rattle.lines_wire.specs.PartBytes.{encode_sheet_place, FitsSheetPlace};
-    ghost use Rattle.lines_wire.specs.laws.LinesReading.{sheet_place_at};
-    ghost use Rattle.lines_wire.specs.laws.PartLaws.{sheet_place_format, sheet_place_some};
+    ghost use Rattle.sheet_wire.specs.PartBytes.{encode_sheet_place, FitsSheetPlace};
+    ghost use Rattle.sheet_wire.specs.laws.LinesReading.{sheet_place_at};
+    ghost use Rattle.sheet_wire.specs.laws.PartLaws.{sheet_place_format, sheet_place_some};
 
     type Value = SheetPlace;
 
@@ -72,9 +72,9 @@ pub struct SheetIndexPart;
 
 impl Part for SheetIndexPart {
     ghost use Rattle.base_wire.specs.Encoding.{Any};
-    ghost use Rattle.lines_wire.specs.PartBytes.{encode_sheet_index, FitsSheetIndex};
-    ghost use Rattle.lines_wire.specs.laws.LinesReading.{sheet_index_at};
-    ghost use Rattle.lines_wire.specs.laws.PartLaws.{sheet_index_format, sheet_index_some};
+    ghost use Rattle.sheet_wire.specs.PartBytes.{encode_sheet_index, FitsSheetIndex};
+    ghost use Rattle.sheet_wire.specs.laws.LinesReading.{sheet_index_at};
+    ghost use Rattle.sheet_wire.specs.laws.PartLaws.{sheet_index_format, sheet_index_some};
 
     type Value = SheetIndex;
 

@@ -1,5 +1,5 @@
 use Rattle.base_wire.specs.laws.MapFits.{any_option}
-use Rattle.lines_wire.proofs.kept_lines.put_kept.Goals as goal
+use Rattle.sheet_wire.proofs.kept_lines.put_kept.Goals as goal
 
 pub returns-clause-fits : goal.returns-clause-fits
 returns-clause-fits c = λ known. record {

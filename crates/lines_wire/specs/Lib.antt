@@ -1,4 +1,0 @@
-pub mod PartBytes
-pub mod EditBytes
-pub mod KeptBytes
-pub mod laws

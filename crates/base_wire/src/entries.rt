@@ -4,7 +4,7 @@ ghost use Rattle.base_values.specs.Answers.{Answers, map_ok};
 ghost use Rattle.base_wire.specs.laws.Reading.{◌⊗◌};
 
 use base_values::EditError;
-use base_wire::{Part, read};
+use crate::{Part, read};
 use std::alloc::{AllocError, Global};
 use std::marker::PhantomData;
 

@@ -1,11 +1,15 @@
 //! The parts of which every format of bytes is made: numbers, booleans, error values, decimals,
-//! texts, options and lists.
+//! texts, options, lists and maps.
 //!
-//! A [`Part`] is a type whose values have a encoding. The layers above see of it the encoding, which is
+//! A [`Part`] is a type whose values have an encoding. The layers above see of it the encoding, which is
 //! a function of the value, and what bytes can carry: a value that they can carry is read again from
 //! its encoding, whatever follows, what is read was encoded so, and all else is refused with
 //! `ParseDiffs`. `specs/laws/Reading.antt` has the steps of each reader as a function, which serves proofs
 //! alone; `specs/laws/` ties them to the encodings.
+//!
+//! A [`MapPart`] is the format of a map, made of those of its keys and of its values: how many entries it
+//! has, and its entries in the one order of their keys. Its keys are of one of the types with
+//! [`PlainKey`], which the map takes without a condition.
 #![tactic(auto)]
 
 mod codes;

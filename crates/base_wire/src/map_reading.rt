@@ -12,7 +12,7 @@ ghost use Rattle.base_wire.specs.laws.MapReading.{entries_at, map_of_at};
 
 use crate::entries::EntryPart;
 use base_values::{EditError, Items, KeyMap, MapKey};
-use base_wire::{Part, read};
+use crate::{Part, read};
 use std::alloc::Global;
 
 /// Whether the keys of entries rise strictly.

@@ -7,7 +7,7 @@ ghost use Rattle.base_wire.specs.MapBytes.{encode_entries, encode_map, FitsMap, 
 ghost use Rattle.base_wire.specs.laws.MapFits.{Carried};
 
 use base_values::{KeyMap, MapKey};
-use base_wire::Part;
+use crate::Part;
 use std::alloc::AllocError;
 use std::collections::btree_map::Iter;
 

@@ -1,10 +1,10 @@
 //! Maps as parts of formats.
 
 use crate::plain_key::PlainKey;
-use crate::reading::map_at;
-use crate::writing::put_map;
+use crate::map_reading::map_at;
+use crate::map_writing::put_map;
 use base_values::{EditError, KeyMap};
-use base_wire::Part;
+use crate::Part;
 use std::alloc::{AllocError, Global};
 use std::marker::PhantomData;
 

@@ -1,4 +1,4 @@
-//! What every part of a format is: a type whose values have a encoding (docs/FORMATS.md).
+//! What every part of a format is: a type whose values have an encoding (docs/FORMATS.md).
 
 ghost use Rattle.std.specs.Prelude.{◌≡◌, ◌++◌, ◌≤◌, OnOk, List, ℕ, length};
 ghost use Rattle.base_values.specs.Answers.{Answers, map_ok};

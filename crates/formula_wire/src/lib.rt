@@ -1,6 +1,6 @@
 //! Trees of formulas as bytes, in both directions.
 //!
-//! The layers above see a encoding, `encode_node`, which is a function of the tree: a tree that bytes can
+//! The layers above see an encoding, `encode_node`, which is a function of the tree: a tree that bytes can
 //! carry is read again from its encoding whatever follows, and what is read was encoded so. What
 //! bytes can carry is every tree of Rust's own types that is at most 64 deep and whose numbers are
 //! canonical.

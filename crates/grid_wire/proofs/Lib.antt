@@ -1,2 +1,1 @@
-mod KnownRules
 mod Known

@@ -2,26 +2,18 @@
 use Rattle.std.specs.Prelude.{ℕ, ◌<◌, ◌^◌, List, ◌++◌}
 use Rattle.std.specs.List.{AllByRecursion}
 use Rattle.std.specs.Int.{w32, to_be_bytes}
-use Rattle.base_axis.specs.declared.MergedCell.{MergedCell}
 use Rattle.format_rules.specs.declared.ConditionalFormatting.{ConditionalFormatting}
 use Rattle.base_wire.specs.Encoding.{encode_list, FitsItems}
-use Rattle.grid_wire.specs.MergeBytes.{encode_merge, FitsMerge}
+use Rattle.grid_wire.specs.MergeBytes.{encode_merges, FitsMerges}
 use Rattle.grid_wire.specs.RuleBytes.{encode_rule, FitsRule, IsKnownRule}
-
--- the parts of a rule, in their order
-abbrev pub encode_areas : List MergedCell → List ℕ
-encode_areas = encode_list encode_merge
-
-abbrev pub FitsAreas : List MergedCell → Type 0
-FitsAreas = FitsItems FitsMerge
 
 -- the parts, the rule, and the priority
 abbrev pub encode_formatting : ConditionalFormatting → List ℕ
-encode_formatting formatting = encode_areas formatting.parts ++ (encode_rule formatting.rule ++ to_be_bytes w32 formatting.priority)
+encode_formatting formatting = encode_merges formatting.parts ++ (encode_rule formatting.rule ++ to_be_bytes w32 formatting.priority)
 
 -- parts of numbers of 32 bits, a rule that bytes can carry, and a priority of 32 bits
 pub record FitsFormatting (formatting : ConditionalFormatting) : Type 0 where
-  pub parts : FitsAreas formatting.parts
+  pub parts : FitsMerges formatting.parts
   pub rule : FitsRule formatting.rule
   pub priority : formatting.priority < 2 ^ 32
 

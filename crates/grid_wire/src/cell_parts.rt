@@ -2,7 +2,7 @@
 
 use crate::reading_cells::{cell_at, position_at};
 use crate::reading_styles::{alignment_at, border_item_at, color_at, style_at};
-use crate::writing::{
+use crate::writing_cells::{
     put_alignment, put_border_item, put_cell, put_color, put_position, put_style,
 };
 use base_shared::Shared;

@@ -4,7 +4,7 @@ ghost use Rattle.std.specs.Prelude.{◌≡◌, IfOk, IsOkUnless};
 ghost use Rattle.base_values.specs.declared.EditError.TheVariants.{NoMemory};
 ghost use Rattle.grid_wire.specs.RuleBytes.{encode_rule};
 
-use crate::writing::put_rule;
+use crate::writing_rules::put_rule;
 use base_values::EditError;
 use format_rules::CfRule;
 use std::alloc::Global;

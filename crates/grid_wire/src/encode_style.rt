@@ -4,7 +4,7 @@ ghost use Rattle.std.specs.Prelude.{◌≡◌, IfOk, IsOkUnless};
 ghost use Rattle.base_values.specs.declared.EditError.TheVariants.{NoMemory};
 ghost use Rattle.grid_wire.specs.StyleBytes.{encode_style};
 
-use crate::writing::put_style;
+use crate::writing_cells::put_style;
 use base_styles::Style;
 use base_values::EditError;
 use std::alloc::Global;

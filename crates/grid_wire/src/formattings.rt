@@ -1,13 +1,10 @@
 //! Rules with their parts and priorities as parts of formats.
 
-ghost use Rattle.std.specs.Prelude.{◌≡◌, ◌++◌, OnOk};
 ghost use Rattle.base_values.specs.Answers.{Answers, map_ok};
-ghost use Rattle.grid_wire.specs.FormattingBytes.{encode_areas, FitsAreas};
 ghost use Rattle.grid_wire.specs.laws.RuleReading.{formatting_at};
 
-use crate::areas::AreaPart;
+use crate::merges::{MergedCellPart, put_merges};
 use crate::rules::RulePart;
-use base_axis::MergedCell;
 use base_shared::Shared;
 use base_styles::Style;
 use base_values::{EditError, Items};
@@ -15,7 +12,7 @@ use base_wire::{Part, put_items, read};
 use format_rules::{ConditionalFormatting, RuleList};
 use std::alloc::{AllocError, Global};
 
-#[tactic(auto, unfolding(crate::specs::laws::RuleReading::formatting_at, crate::specs::laws::RuleReading::areas_at))]
+#[tactic(auto, unfolding(crate::specs::laws::RuleReading::formatting_at))]
 fn formatting_at<'a>(
     alloc: Global,
     plain: &Shared<Style>,
@@ -23,7 +20,7 @@ fn formatting_at<'a>(
 ) -> Result<(ConditionalFormatting, &'a [u8]), EditError>
     ensures { Answers (map_ok (λ x. (x.0, x.1.now)) result) (formatting_at bytes.now) }
 {
-    let (parts, rest) = read::<Items<AreaPart>>(alloc, &(), bytes)?;
+    let (parts, rest) = read::<Items<MergedCellPart>>(alloc, &(), bytes)?;
     let (rule, rest) = read::<RulePart>(alloc, plain, rest)?;
     let (priority, rest) = read::<u32>(alloc, &(), rest)?;
     let formatting = ConditionalFormatting {
@@ -32,14 +29,6 @@ fn formatting_at<'a>(
         priority,
     };
     Ok((formatting, rest))
-}
-
-#[tactic(auto, using(crate::proofs::KnownRules::any_items))]
-fn put_areas(out: &mut Vec<u8>, areas: &[MergedCell]) -> Result<(), AllocError>
-    ensures encoded { OnOk result (out.new.items ≡ out.old.items ++ encode_areas areas.now) }
-    ensures fits { OnOk result (FitsAreas areas.now) }
-{
-    put_items::<AreaPart>(out, areas)
 }
 
 /// A rule with its parts and its priority (docs/FORMATS.md, "Bytes"). The parts may be any rectangles.
@@ -64,7 +53,7 @@ impl Part for FormattingPart {
     ghost reading = { formatting_at };
 
     fn put(out: &mut Vec<u8>, value: &ConditionalFormatting) -> Result<(), AllocError> {
-        put_areas(out, value.parts.as_slice())?;
+        put_merges(out, value.parts.as_slice())?;
         RulePart::put(out, &value.rule)?;
         u32::put(out, &value.priority)
     }

@@ -13,9 +13,8 @@ ghost use Rattle.grid_wire.specs.laws.Reading.{axis_line_at, axis_map_at, place_
 
 use base_axis::{Axis, AxisMap, LineKeys};
 use base_values::{EditError, PlaceKeys, PlaceMap, Position, is_line, is_place};
-use base_wire::{Part, read};
+use base_wire::{Part, map_at, put_map, read};
 use crate::PositionPart;
-use base_wire::{map_at, put_map};
 use std::alloc::{AllocError, Global};
 use std::marker::PhantomData;
 

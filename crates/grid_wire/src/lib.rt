@@ -1,11 +1,12 @@
-//! Defined names, what lines have of their own and whole sheets as bytes, in both directions.
+//! What stands in a workbook as bytes, in both directions: themes, locales and time zones, styles,
+//! cells, links and merges, conditional rules, defined names, what lines have of their own, and whole
+//! sheets.
 //!
-//! The layers above see of each a encoding, which is a function of the value: what bytes can carry is
+//! The layers above see of each an encoding, which is a function of the value: what bytes can carry is
 //! read again from its encoding whatever follows, what is read was encoded so, and all else is refused
 //! with `ParseDiffs`. The keys of a sheet's maps lie inside the sheet.
 #![tactic(auto)]
 
-mod areas;
 mod cell_parts;
 mod encode_rule;
 mod encode_style;

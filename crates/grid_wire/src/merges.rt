@@ -55,8 +55,9 @@ fn put_merge(out: &mut Vec<u8>, merge: MergedCell) -> Result<(), AllocError>
     i32::put(out, &merge.height)
 }
 
+/// Adds the merges, or the parts of a rule.
 #[tactic(auto, using(crate::proofs::Known::any_items))]
-fn put_merges(out: &mut Vec<u8>, merges: &[MergedCell]) -> Result<(), AllocError>
+pub(crate) fn put_merges(out: &mut Vec<u8>, merges: &[MergedCell]) -> Result<(), AllocError>
     ensures encoded { OnOk result (out.new.items ≡ out.old.items ++ encode_merges merges.now) }
     ensures fits { OnOk result (FitsMerges merges.now) }
 {

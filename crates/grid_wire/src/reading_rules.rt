@@ -3,13 +3,13 @@
 ghost use Rattle.base_values.specs.Answers.{Answers, map_ok};
 ghost use Rattle.grid_wire.specs.laws.RuleReading.{cell_is_at, data_bar_at, formula_at, icon_rating_at, icon_set_at, rule_at};
 
-use crate::codes::operator_at;
+use crate::rule_codes::operator_at;
 use crate::thresholds::{CfvoPart, ColorThresholdPart, IconThresholdPart};
 use base_wire::read;
 use base_shared::Shared;
 use base_styles::Style;
 use base_values::{EditError, Items};
-use grid_wire::{ColorPart, StylePart};
+use crate::{ColorPart, StylePart};
 use format_rules::CfRule;
 use formula_wire::NodePart;
 use std::alloc::Global;

@@ -7,7 +7,7 @@ ghost use Rattle.base_tables.specs.Locale.{locale_of_code};
 ghost use Rattle.base_tables.specs.Zone.{zone_of_code};
 ghost use Rattle.grid_wire.specs.laws.SettingReading.{locale_at, zone_at, rgb_at, theme_at};
 
-use crate::parts::RgbPart;
+use crate::setting_parts::RgbPart;
 use base_wire::read;
 use base_styles::{RgbColor, Theme};
 use base_tables::{Locale, Zone};

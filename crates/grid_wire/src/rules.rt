@@ -1,5 +1,5 @@
-use crate::reading::rule_at;
-use crate::writing::put_rule;
+use crate::reading_rules::rule_at;
+use crate::writing_rules::put_rule;
 use base_shared::Shared;
 use base_styles::Style;
 use base_values::EditError;

@@ -1,7 +1,7 @@
 //! Colours of themes, themes, locales and time zones as parts of formats.
 
-use crate::reading::{locale_at, rgb_at, theme_at, zone_at};
-use crate::writing::{put_rgb, put_theme};
+use crate::reading_settings::{locale_at, rgb_at, theme_at, zone_at};
+use crate::writing_settings::{put_rgb, put_theme};
 use base_styles::{RgbColor, Theme};
 use base_tables::{Locale, Zone};
 use base_values::EditError;

@@ -9,7 +9,7 @@ use base_decimal::Decimal;
 use base_shared::Shared;
 use base_values::EditError;
 use base_wire::{Part, read};
-use grid_wire::ColorPart;
+use crate::ColorPart;
 use format_rules::{Cfvo, ColorThreshold, IconThreshold};
 use formula_wire::NodePart;
 use std::alloc::{AllocError, Global};

@@ -7,12 +7,12 @@ ghost use Rattle.formula_wire.specs.Carried.{IsKnownNode};
 ghost use Rattle.grid_wire.specs.ThresholdBytes.{IsKnownCfvo, IsKnownIconThreshold};
 ghost use Rattle.grid_wire.specs.RuleBytes.{encode_cell_is, encode_data_bar, encode_formula, encode_icon_rating, encode_icon_set, encode_rule, FitsCellIs, FitsDataBar, FitsFormula, FitsIconRating, FitsIconSet, FitsRule, IsKnownRule};
 
-use crate::codes::operator_code;
+use crate::rule_codes::operator_code;
 use crate::thresholds::{CfvoPart, ColorThresholdPart, IconThresholdPart};
 use base_shared::Shared;
 use base_styles::{Color, Style};
 use base_wire::{Part, put_items};
-use grid_wire::{ColorPart, StylePart};
+use crate::{ColorPart, StylePart};
 use format_rules::{CfOperator, CfRule, Cfvo, IconThreshold};
 use formula_tree::Node;
 use formula_wire::NodePart;

@@ -6,13 +6,10 @@ use base_shared::Shared;
 use base_styles::Style;
 use base_tables::Error;
 use base_values::{EditError, Text};
-use base_wire::Part;
-use grid_wire::{NamePart, SheetPart};
-use sheet_wire::{EditPart, KeptLinesPart};
-use base_wire::MapPart;
-use grid_wire::RulePart;
+use base_wire::{MapPart, Part};
+use grid_wire::{NamePart, RulePart, SheetPart};
+use sheet_wire::{DiffPart, EditPart, KeptLinesPart, decode_queue};
 use script_dump::{push_hex, push_line};
-use sheet_wire::{DiffPart, decode_queue};
 use std::alloc::Global;
 
 type NumbersPart = MapPart<IndexKeys<u8>, u64, u8>;

@@ -1,6 +1,6 @@
 //! Queues of diffs as bytes, in both directions.
 //!
-//! The layers above see a encoding, which is a function of the value. Each value that bytes can carry has
+//! The layers above see an encoding, which is a function of the value. Each value that bytes can carry has
 //! one encoding, which is read again as that value, and what is read was encoded so. What bytes can
 //! carry is every value of Rust's own types whose numbers are canonical and whose trees are at most
 //! 64 deep.

@@ -9,11 +9,10 @@ use base_maps::IndexKeys;
 use base_shared::Shared;
 use base_styles::Style;
 use base_values::EditError;
-use base_wire::{Part, read};
+use base_wire::{MapPart, Part, read};
 use book_sheets::KeptSheet;
 use defined_names::DefinedName;
 use grid_wire::{NamePart, SheetPart};
-use base_wire::MapPart;
 use std::alloc::{AllocError, Global};
 
 type PlacedNamesPart = MapPart<IndexKeys<DefinedName>, u64, NamePart>;

@@ -9,13 +9,12 @@ use base_maps::{IndexKeys, SheetIndexKeys};
 use base_shared::Shared;
 use base_styles::Style;
 use base_values::EditError;
-use base_wire::{Part, read};
+use base_wire::{MapPart, Part, read};
 use book_names::KeptTrees;
 use format_rules::ConditionalFormatting;
 use formula_tree::Node;
 use formula_wire::NodePart;
 use crate::{FormulasPart, SheetIndexPart};
-use base_wire::MapPart;
 use grid_wire::FormattingPart;
 use std::alloc::{AllocError, Global};
 

@@ -7,7 +7,7 @@ use Rattle.format_rules.specs.declared.ColorThreshold.{ColorThreshold}
 use Rattle.format_rules.specs.declared.IconThreshold.{IconThreshold}
 use Rattle.base_wire.specs.laws.Reading.{Reader, plain, refused, map_at, ◌⊗◌, tagged_at, option_at, list_at, boolean_at, decimal_at, byte_at, code_at, number_at}
 use Rattle.formula_wire.specs.laws.Reading.{node_at}
-use Rattle.grid_wire.specs.laws.CellReading.{color_at, style_at, merge_at}
+use Rattle.grid_wire.specs.laws.CellReading.{color_at, style_at, merges_at}
 use Rattle.base_styles.specs.declared.Style.{Style}
 use Rattle.formula_tree.specs.declared.Node.{Node}
 use Rattle.format_rules.specs.declared.CfOperator.{CfOperator}
@@ -124,14 +124,11 @@ rule_at = tagged_at rule_of
 
 -- ---- rules with their parts and priorities
 
-unfoldable pub areas_at : Reader (List MergedCell)
-areas_at = list_at merge_at
-
 abbrev pub formatting_made : List MergedCell × (CfRule × ℕ) → ConditionalFormatting
 formatting_made x = record { parts = x.0; rule = x.1.0; priority = x.1.1 }
 
 unfoldable pub formatting_at : Reader ConditionalFormatting
-formatting_at = map_at formatting_made (areas_at ⊗ rule_at ⊗ number_at w32)
+formatting_at = map_at formatting_made (merges_at ⊗ rule_at ⊗ number_at w32)
 
 unfoldable pub formattings_at : Reader (List ConditionalFormatting)
 formattings_at = list_at formatting_at

@@ -3,8 +3,8 @@
 ghost use Rattle.base_values.specs.Answers.{Answers, map_ok};
 ghost use Rattle.base_wire.specs.laws.Reading.{◌⊗◌};
 
-use base_values::EditError;
 use crate::{Part, read};
+use base_values::EditError;
 use std::alloc::{AllocError, Global};
 use std::marker::PhantomData;
 

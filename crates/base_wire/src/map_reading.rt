@@ -11,8 +11,8 @@ ghost use Rattle.base_wire.specs.MapBytes.{FitsMap, Within, encode_map};
 ghost use Rattle.base_wire.specs.laws.MapReading.{entries_at, map_of_at};
 
 use crate::entries::EntryPart;
-use base_values::{EditError, Items, KeyMap, MapKey};
 use crate::{Part, read};
+use base_values::{EditError, Items, KeyMap, MapKey};
 use std::alloc::Global;
 
 /// Whether the keys of entries rise strictly.

@@ -6,8 +6,8 @@ ghost use Rattle.base_wire.specs.Encoding.{encode_both};
 ghost use Rattle.base_wire.specs.MapBytes.{encode_entries, encode_map, FitsMap, HasValues, Within};
 ghost use Rattle.base_wire.specs.laws.MapFits.{Carried};
 
-use base_values::{KeyMap, MapKey};
 use crate::Part;
+use base_values::{KeyMap, MapKey};
 use std::alloc::AllocError;
 use std::collections::btree_map::Iter;
 

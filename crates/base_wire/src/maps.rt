@@ -1,10 +1,10 @@
 //! Maps as parts of formats.
 
-use crate::plain_key::PlainKey;
+use crate::Part;
 use crate::map_reading::map_at;
 use crate::map_writing::put_map;
+use crate::plain_key::PlainKey;
 use base_values::{EditError, KeyMap};
-use crate::Part;
 use std::alloc::{AllocError, Global};
 use std::marker::PhantomData;
 

@@ -7,9 +7,9 @@ ghost use Rattle.base_wire.specs.laws.Reading.{decoded};
 ghost use Rattle.formula_wire.specs.PartBytes.{compare_code, product_code, sum_code, unary_code};
 ghost use Rattle.formula_wire.specs.laws.Reading.{compare_at, comparisons, function_at, product_at, products, sum_at, sums, unaries, unary_at};
 
-use base_wire::read;
 use base_tables::Function;
 use base_values::EditError;
+use base_wire::read;
 use formula_tree::{CompareKind, ProductKind, SumKind, UnaryKind};
 use std::alloc::Global;
 

@@ -4,10 +4,10 @@ ghost use Rattle.base_values.specs.Answers.{Answers, map_ok};
 ghost use Rattle.base_wire.specs.laws.Reading.{count_at};
 ghost use Rattle.formula_wire.specs.laws.Reading.{corner_at, item_at, parameter_at};
 
-use base_wire::read;
 use base_decimal::Decimal;
 use base_tables::Error;
 use base_values::{EditError, Text};
+use base_wire::read;
 use formula_tree::{ArrayItem, Corner, Parameter};
 use std::alloc::Global;
 

@@ -9,11 +9,11 @@ ghost use Rattle.formula_wire.specs.laws.Reading.{corner_at, sheet_at, call_of, 
 use crate::codes::{compare_at, function_at, product_at, sum_at, unary_at};
 use crate::parts::{ConstantPart, ParameterPart};
 use crate::parts_reading::{corner_at, count_at};
-use base_wire::read;
 use base_decimal::Decimal;
 use base_shared::Shared;
 use base_tables::Error;
 use base_values::{EditError, Items, Text};
+use base_wire::read;
 use formula_tree::{MAX_DEPTH, Node};
 use std::alloc::Global;
 

@@ -11,10 +11,10 @@ ghost use Rattle.grid_wire.specs.CellBytes.{encode_position};
 ghost use Rattle.base_wire.specs.MapBytes.{encode_map, FitsMap};
 ghost use Rattle.grid_wire.specs.laws.Reading.{axis_line_at, axis_map_at, place_at, place_map_at};
 
+use crate::PositionPart;
 use base_axis::{Axis, AxisMap, LineKeys};
 use base_values::{EditError, PlaceKeys, PlaceMap, Position, is_line, is_place};
 use base_wire::{Part, map_at, put_map, read};
-use crate::PositionPart;
 use std::alloc::{AllocError, Global};
 use std::marker::PhantomData;
 

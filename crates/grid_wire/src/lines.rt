@@ -3,11 +3,11 @@
 ghost use Rattle.base_values.specs.Answers.{Answers, map_ok};
 ghost use Rattle.grid_wire.specs.laws.Reading.{line_at};
 
+use crate::StylePart;
 use base_shared::Shared;
 use base_styles::Style;
 use base_values::EditError;
 use base_wire::{Part, read};
-use crate::StylePart;
 use sheet_grid::LineAttr;
 use std::alloc::{AllocError, Global};
 

@@ -4,12 +4,12 @@ ghost use Rattle.base_values.specs.Answers.{Answers, map_ok};
 ghost use Rattle.grid_wire.specs.laws.CellReading.{cell_at, content_at, formula_at, position_at, sides_at};
 
 use crate::reading_styles::style_at;
-use base_wire::read;
 use base_decimal::Decimal;
 use base_shared::Shared;
 use base_styles::Style;
 use base_tables::Error;
 use base_values::{EditError, Position, Text};
+use base_wire::read;
 use cell_content::Content;
 use formula_tree::Node;
 use formula_wire::NodePart;

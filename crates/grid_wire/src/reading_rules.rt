@@ -5,11 +5,11 @@ ghost use Rattle.grid_wire.specs.laws.RuleReading.{cell_is_at, data_bar_at, form
 
 use crate::rule_codes::operator_at;
 use crate::thresholds::{CfvoPart, ColorThresholdPart, IconThresholdPart};
-use base_wire::read;
+use crate::{ColorPart, StylePart};
 use base_shared::Shared;
 use base_styles::Style;
 use base_values::{EditError, Items};
-use crate::{ColorPart, StylePart};
+use base_wire::read;
 use format_rules::CfRule;
 use formula_wire::NodePart;
 use std::alloc::Global;

@@ -8,10 +8,10 @@ ghost use Rattle.base_tables.specs.Zone.{zone_of_code};
 ghost use Rattle.grid_wire.specs.laws.SettingReading.{locale_at, zone_at, rgb_at, theme_at};
 
 use crate::setting_parts::RgbPart;
-use base_wire::read;
 use base_styles::{RgbColor, Theme};
 use base_tables::{Locale, Zone};
 use base_values::EditError;
+use base_wire::read;
 use std::alloc::Global;
 
 #[tactic(auto, unfolding(crate::specs::laws::SettingReading::rgb_at))]

@@ -11,14 +11,13 @@ ghost use Rattle.grid_wire.specs.laws.Reading.{cells_at, columns_at, fields_at, 
 use crate::keys::{axis_map_at, place_map_at};
 use crate::lines::LinePart;
 use crate::states::StatePart;
-use base_wire::read;
+use crate::{CellPart, ColorPart, LinkPart, MergeListPart, RuleListPart};
 use base_axis::{AxisMap, ColumnAxis, MergeList, RowAxis};
 use base_shared::Shared;
 use base_styles::Style;
 use base_values::{EditError, PlaceMap, Text};
-use crate::{CellPart, ColorPart, LinkPart, MergeListPart};
+use base_wire::read;
 use format_rules::RuleList;
-use crate::RuleListPart;
 use sheet_grid::{Cell, LineAttr, Link, SheetEntries, Worksheet};
 use std::alloc::Global;
 

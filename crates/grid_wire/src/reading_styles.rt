@@ -8,15 +8,15 @@ ghost use Rattle.base_wire.specs.laws.Reading.{code_at, coded_at};
 ghost use Rattle.grid_wire.specs.StyleBytes.{border_code, horizontal_code, vertical_code};
 ghost use Rattle.grid_wire.specs.laws.CellReading.{alignment_at, border_at, border_item_at, border_styles, color_at, font_at, horizontals, style_at, verticals};
 
-use crate::style_codes::{border_style_of, horizontal_of, theme_of, vertical_of};
 use crate::cell_parts::{AlignmentPart, BorderItemPart};
-use base_wire::read;
+use crate::style_codes::{border_style_of, horizontal_of, theme_of, vertical_of};
 use base_shared::Shared;
 use base_styles::{
     Alignment, Border, BorderItem, BorderStyle, Color, Font, HorizontalAlignment, Style,
     ThemeColor, VerticalAlignment,
 };
 use base_values::{EditError, Text, copy_of, same};
+use base_wire::read;
 use std::alloc::Global;
 
 fn theme_at(alloc: Global, bytes: &[u8]) -> Result<(ThemeColor, &[u8]), EditError>

@@ -7,8 +7,8 @@ ghost use Rattle.base_wire.specs.laws.Reading.{decoded};
 ghost use Rattle.grid_wire.specs.RuleBytes.{operator_code};
 ghost use Rattle.grid_wire.specs.laws.RuleReading.{operator_at, operators};
 
-use base_wire::read;
 use base_values::EditError;
+use base_wire::read;
 use format_rules::CfOperator;
 use std::alloc::Global;
 

@@ -5,11 +5,11 @@ ghost use Rattle.base_values.specs.Answers.{Answers, map_ok};
 ghost use Rattle.grid_wire.specs.ThresholdBytes.{encode_cfvo, FitsCfvo, IsKnownCfvo};
 ghost use Rattle.grid_wire.specs.laws.RuleReading.{cfvo_at, color_threshold_at, icon_threshold_at};
 
+use crate::ColorPart;
 use base_decimal::Decimal;
 use base_shared::Shared;
 use base_values::EditError;
 use base_wire::{Part, read};
-use crate::ColorPart;
 use format_rules::{Cfvo, ColorThreshold, IconThreshold};
 use formula_wire::NodePart;
 use std::alloc::{AllocError, Global};

@@ -13,8 +13,8 @@ ghost use Rattle.formula_wire.specs.NodeBytes.{encode_node};
 ghost use Rattle.grid_wire.specs.StyleBytes.{encode_alignment, encode_border, encode_border_item, encode_color, encode_font, encode_style, FitsBorder, FitsBorderItem, FitsColor, FitsFont, FitsStyle};
 ghost use Rattle.grid_wire.specs.CellBytes.{encode_cell, encode_content, encode_position, encode_rest, FitsCell, FitsContent, FitsPosition, FitsRest, FitsSides, IsKnownCell};
 
-use crate::style_codes::{border_code, horizontal_code, kind_code, vertical_code};
 use crate::cell_parts::{AlignmentPart, BorderItemPart};
+use crate::style_codes::{border_code, horizontal_code, kind_code, vertical_code};
 use base_decimal::Decimal;
 use base_styles::{Alignment, Border, BorderItem, Color, Font, Style};
 use base_values::{Position, Text};

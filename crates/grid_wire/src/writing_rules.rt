@@ -9,10 +9,10 @@ ghost use Rattle.grid_wire.specs.RuleBytes.{encode_cell_is, encode_data_bar, enc
 
 use crate::rule_codes::operator_code;
 use crate::thresholds::{CfvoPart, ColorThresholdPart, IconThresholdPart};
+use crate::{ColorPart, StylePart};
 use base_shared::Shared;
 use base_styles::{Color, Style};
 use base_wire::{Part, put_items};
-use crate::{ColorPart, StylePart};
 use format_rules::{CfOperator, CfRule, Cfvo, IconThreshold};
 use formula_tree::Node;
 use formula_wire::NodePart;

@@ -10,10 +10,9 @@ ghost use Rattle.grid_wire.specs.SheetBytes.{encode_entries, encode_fields, enco
 use crate::keys::{put_axis_map, put_place_map};
 use crate::lines::LinePart;
 use crate::states::StatePart;
+use crate::{CellPart, ColorPart, LinkPart, MergeListPart, RuleListPart};
 use base_axis::{ColumnAxis, RowAxis};
 use base_wire::{Part, boolean_code};
-use crate::{CellPart, ColorPart, LinkPart, MergeListPart};
-use crate::RuleListPart;
 use sheet_grid::Worksheet;
 use std::alloc::AllocError;
 

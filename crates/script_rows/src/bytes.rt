@@ -8,8 +8,8 @@ use base_tables::Error;
 use base_values::{EditError, Text};
 use base_wire::{MapPart, Part};
 use grid_wire::{NamePart, RulePart, SheetPart};
-use sheet_wire::{DiffPart, EditPart, KeptLinesPart, decode_queue};
 use script_dump::{push_hex, push_line};
+use sheet_wire::{DiffPart, EditPart, KeptLinesPart, decode_queue};
 use std::alloc::Global;
 
 type NumbersPart = MapPart<IndexKeys<u8>, u64, u8>;

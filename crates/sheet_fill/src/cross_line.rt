@@ -201,7 +201,9 @@ fn style_at(fill: &Fill<'_>, place: Position) -> Result<Shared<Style>, EditError
     ensures style { IfOk result (λ style. style ≡ shown_style fill.now.sheet.now place) }
     ensures only { IsOkUnless result NoMemory }
 {
-    let style = fill.sheet.shown_style(place.row, place.column, fill.default)?;
+    let style = fill
+        .sheet
+        .shown_style(place.row, place.column, fill.default)?;
     copy_of(style)
 }
 

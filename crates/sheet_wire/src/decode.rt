@@ -19,12 +19,12 @@ use crate::decode_sheets::{
 use crate::parts::{DiffPart, EntryPart};
 use crate::rule_changes::rule_diff_at;
 use crate::settings::{locale_diff_at, theme_diff_at, title_diff_at, zone_diff_at};
+use crate::{EditPart, KeptLinesPart};
 use base_shared::Shared;
 use base_styles::Style;
 use base_values::{EditError, Items, Position};
 use base_wire::{Part, read};
 use grid_wire::{CellPart, LinkPart, MergeListPart, PositionPart};
-use crate::{EditPart, KeptLinesPart};
 use sheet_history::{Diff, DiffType, LineAxis, QueueDiffs};
 use std::alloc::Global;
 

@@ -16,12 +16,12 @@ use crate::encode_sheets::{
 use crate::parts::{DiffPart, EntryPart};
 use crate::rule_changes::put_rule;
 use crate::settings::put_setting;
+use crate::{EditPart, KeptLinesPart};
 use base_shared::Shared;
 use base_values::{EditError, Items, Position};
 use base_wire::{Part, put_items};
 use grid_wire::{CellPart, LinkPart, MergeListPart, PositionPart};
 use line_map::EditKind;
-use crate::{EditPart, KeptLinesPart};
 use sheet_history::{Diff, LineAxis, QueueDiffs};
 use sheet_lines::KeptLines;
 use std::alloc::{AllocError, Global};

@@ -9,8 +9,8 @@ use base_shared::Shared;
 use base_styles::Style;
 use base_values::EditError;
 use base_wire::{Part, read};
-use rule_edits::RuleChange;
 use grid_wire::FormattingPart;
+use rule_edits::RuleChange;
 use sheet_history::Diff;
 use std::alloc::{AllocError, Global};
 

@@ -5,6 +5,7 @@ ghost use Rattle.base_values.specs.Answers.{Answers, map_ok};
 ghost use Rattle.sheet_wire.specs.TreesBytes.{encode_trees, AreKnownTrees, FitsTrees};
 ghost use Rattle.sheet_wire.specs.laws.Reading.{trees_at};
 
+use crate::{FormulasPart, SheetIndexPart};
 use base_maps::{IndexKeys, SheetIndexKeys};
 use base_shared::Shared;
 use base_styles::Style;
@@ -14,7 +15,6 @@ use book_names::KeptTrees;
 use format_rules::ConditionalFormatting;
 use formula_tree::Node;
 use formula_wire::NodePart;
-use crate::{FormulasPart, SheetIndexPart};
 use grid_wire::FormattingPart;
 use std::alloc::{AllocError, Global};
 

@@ -20,14 +20,13 @@ pub use base_styles::{
 };
 pub use base_values::{EditError, Items, Position, Text};
 pub use cell_type::CellType;
-pub use grid_wire::encode_style;
 pub use format_rules::{
     CfOperator, CfRule, Cfvo, ColorThreshold, ConditionalFormatting, IconThreshold,
 };
+pub use grid_wire::{encode_rule, encode_style};
 pub use name_lists::{DefinedNames, ScopedName};
 pub use open_book::{ClearAll, Recalc, edits_go_both_ways};
 pub use properties::SheetProperties;
-pub use grid_wire::encode_rule;
 pub use sheet_actions::Model;
 pub use sheet_grid::{
     Cell, Computed, ComputedValue, Content, Link, SheetState, Workbook, Worksheet,

@@ -1,5 +1,6 @@
 -- What reading a part of a format answers, said by the encoding of the part alone.
-use Rattle.std.specs.Prelude.{◌≡◌, ◌≢◌, ℕ, List, ◌++◌, Result, Ok, IfOk, IfErr}
+use Rattle.std.specs.Prelude.{◌≡◌, ◌≢◌, ◌<◌, ◌+◌, ◌⊎◌, ℕ, List, ◌++◌, length, take, drop, Result, Ok, IfOk, IfErr}
+use Rattle.std.specs.Int.{w64, from_be_bytes}
 use Rattle.base_values.specs.Answers.{Answers}
 use Rattle.base_values.specs.declared.EditError.{EditError}
 use Rattle.base_values.specs.declared.EditError.TheVariants.{NoMemory, ParseDiffs}
@@ -19,3 +20,17 @@ pub record Reads {A : Type 0} (Fits : A → Type 0) (encode : A → List ℕ) (b
   pub fits : IfOk result (λ x. Fits x.0)
   pub again : (x : A) → (rest : List ℕ) → Fits x → bytes ≡ encode x ++ rest → Answers result (Ok (x, rest))
   pub refused : IfErr result (λ e. e ≢ NoMemory → (e ≡ ParseDiffs) × BeginsWithNone Fits encode bytes)
+
+-- what reading whole bytes answers: the value of which they are the bytes, or this refusal where there is none
+pub record ReadsWhole {A : Type 0} (IsBytesOf : List ℕ → A → Type 0) (refusal : EditError) (bytes : List ℕ) (result : Result A EditError) : Type 0 where
+  pub encoded : IfOk result (IsBytesOf bytes)
+  pub again : (x : A) → IsBytesOf bytes x → Answers result (Ok x)
+  pub refused : IfErr result (λ e. e ≢ NoMemory → e ≡ refusal)
+
+-- bytes that begin with no count of eight bytes, or with one that is greater than the number of the bytes after it
+abbrev pub HasNoCount : List ℕ → Type 0
+HasNoCount bytes = length bytes < 8 + from_be_bytes w64 (take 8 bytes)
+
+-- bytes that do not begin with these four and such a count
+abbrev pub HasNoFront : List ℕ → List ℕ → Type 0
+HasNoFront magic bytes = (take 4 bytes ≢ magic) ⊎ HasNoCount (drop 4 bytes)

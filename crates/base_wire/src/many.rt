@@ -1,8 +1,10 @@
 //! Options and lists of any part.
 
-ghost use Rattle.std.specs.Prelude.{◌≡◌, ◌++◌, OnOk};
+ghost use Rattle.std.specs.Prelude.{◌≡◌, ◌++◌, IsErrAnd, OnOk};
 ghost use Rattle.std.specs.List.{AllByRecursion};
 ghost use Rattle.base_values.specs.Answers.{Answers, map_ok};
+ghost use Rattle.base_values.specs.declared.EditError.TheVariants.{ParseDiffs};
+ghost use Rattle.base_wire.specs.Reads.{HasNoCount};
 ghost use Rattle.base_wire.specs.laws.Reading.{list_at, many_at, option_at};
 ghost use Rattle.base_wire.specs.Encoding.{encode_list, FitsItems};
 
@@ -55,7 +57,8 @@ fn list_at<'a, P: Part>(
     context: &P::Context,
     bytes: &'a [u8],
 ) -> Result<(Items<P::Value>, &'a [u8]), EditError>
-    ensures { Answers (map_ok (λ x. (x.0, x.1.now)) result) (list_at P.reading bytes.now) }
+    ensures read { Answers (map_ok (λ x. (x.0, x.1.now)) result) (list_at P.reading bytes.now) }
+    ensures early { HasNoCount bytes.now → IsErrAnd result (λ e. e ≡ ParseDiffs) }
 {
     let (count, rest) = count_at(bytes)?;
     let (items, rest) = many_at::<P>(alloc, context, count, rest)?;

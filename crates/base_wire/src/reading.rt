@@ -2,12 +2,13 @@
 //! "Bytes"). Each reader answers the value and the bytes after it. It refuses with `ParseDiffs` bytes
 //! that are cut short or encode no such value.
 
-ghost use Rattle.std.specs.Prelude.{if◌then◌else◌};
+ghost use Rattle.std.specs.Prelude.{◌≡◌, IsErrAnd, if◌then◌else◌};
 ghost use Rattle.base_values.specs.declared.EditError.TheVariants.{ParseDiffs};
 ghost use Rattle.std.specs.Int.{w32, w64, w128};
 ghost use Rattle.std.specs.Str.{is_utf8};
 ghost use Rattle.base_values.specs.Answers.{Answers, map_ok};
-ghost use Rattle.base_wire.specs.laws.Reading.{byte_at, bytes_at, count_at, number_at, signed_at, text_at, boolean_at, decimal_at, error_at};
+ghost use Rattle.base_wire.specs.Reads.{HasNoCount};
+ghost use Rattle.base_wire.specs.laws.Reading.{byte_at, bytes_at, count_at, number_at, signed_at, sized_at, text_at, boolean_at, decimal_at, error_at};
 
 use crate::codes::boolean_of;
 use base_decimal::Decimal;
@@ -39,7 +40,8 @@ pub(crate) fn u32_at(bytes: &[u8]) -> Result<(u32, &[u8]), EditError>
 
 /// Eight bytes as a number, the highest first.
 pub(crate) fn u64_at(bytes: &[u8]) -> Result<(u64, &[u8]), EditError>
-    ensures { Answers (map_ok (λ x. (x.0, x.1.now)) result) (number_at w64 bytes.now) }
+    ensures read { Answers (map_ok (λ x. (x.0, x.1.now)) result) (number_at w64 bytes.now) }
+    ensures exact { map_ok (λ x. (x.0, x.1.now)) result ≡ number_at w64 bytes.now }
 {
     if bytes.len() < 8 {
         return Err(EditError::ParseDiffs);
@@ -83,7 +85,7 @@ pub(crate) fn boolean_at(bytes: &[u8]) -> Result<(bool, &[u8]), EditError>
 }
 
 fn bytes_at(count: u64, bytes: &[u8]) -> Result<(&[u8], &[u8]), EditError>
-    ensures { Answers (map_ok (λ x. (x.0.now, x.1.now)) result) (bytes_at count bytes.now) }
+    ensures { map_ok (λ x. (x.0.now, x.1.now)) result ≡ bytes_at count bytes.now }
 {
     if (bytes.len() as u64) < count {
         return Err(EditError::ParseDiffs);
@@ -129,7 +131,7 @@ pub(crate) fn decimal_at(bytes: &[u8]) -> Result<(Decimal, &[u8]), EditError>
 /// A count of items, which is no greater than the number of the bytes after it: each item takes one
 /// at least.
 pub(crate) fn count_at(bytes: &[u8]) -> Result<(u64, &[u8]), EditError>
-    ensures { Answers (map_ok (λ x. (x.0, x.1.now)) result) (count_at bytes.now) }
+    ensures { map_ok (λ x. (x.0, x.1.now)) result ≡ count_at bytes.now }
 {
     let (count, rest) = u64_at(bytes)?;
     if (rest.len() as u64) < count {
@@ -138,13 +140,21 @@ pub(crate) fn count_at(bytes: &[u8]) -> Result<(u64, &[u8]), EditError>
     Ok((count, rest))
 }
 
-/// A length, and so many bytes of UTF-8. Also refuses with `NoMemory`.
-#[tactic(auto, unfolding(crate::specs::laws::Reading::text_at))]
-pub(crate) fn text_at(alloc: Global, bytes: &[u8]) -> Result<(Text, &[u8]), EditError>
-    ensures { Answers (map_ok (λ x. (x.0, x.1.now)) result) (text_at bytes.now) }
+/// A length, and so many bytes.
+fn sized_at(bytes: &[u8]) -> Result<(&[u8], &[u8]), EditError>
+    ensures { map_ok (λ x. (x.0.now, x.1.now)) result ≡ sized_at bytes.now }
 {
     let (count, rest) = u64_at(bytes)?;
-    let (front, rest) = bytes_at(count, rest)?;
+    bytes_at(count, rest)
+}
+
+/// A length, and so many bytes of UTF-8. Also refuses with `NoMemory`, but not where fewer bytes are left.
+#[tactic(auto, unfolding(crate::specs::laws::Reading::text_at))]
+pub(crate) fn text_at(alloc: Global, bytes: &[u8]) -> Result<(Text, &[u8]), EditError>
+    ensures read { Answers (map_ok (λ x. (x.0, x.1.now)) result) (text_at bytes.now) }
+    ensures early { HasNoCount bytes.now → IsErrAnd result (λ e. e ≡ ParseDiffs) }
+{
+    let (front, rest) = sized_at(bytes)?;
     let text = utf8_of(front)?;
     Ok((Text::new(String::from_str(alloc, text)?), rest))
 }

@@ -87,7 +87,13 @@ signed_at w = map_at (cast_signed w) (number_at w)
 abbrev pub bytes_at : ℕ → Reader (List ℕ)
 bytes_at n bytes = if nat_lt (length bytes) n then Err ParseDiffs else Ok (take n bytes, drop n bytes)
 
--- a length, and so many bytes of UTF-8
+-- a length, and so many bytes
+abbrev pub sized_at : Reader (List ℕ)
+sized_at bytes = do
+  n ← number_at w64 bytes
+  bytes_at n.0 n.1
+
+-- the same, where they are UTF-8
 unfoldable pub text_at : Reader (List ℕ)
 text_at bytes = do
   n ← number_at w64 bytes

@@ -32,3 +32,4 @@ pub use map_writing::put_map;
 pub use maps::MapPart;
 pub use part::{Part, read};
 pub use plain_key::PlainKey;
+pub use reading::count_at;

@@ -129,8 +129,10 @@ pub(crate) fn decimal_at(bytes: &[u8]) -> Result<(Decimal, &[u8]), EditError>
 }
 
 /// A count of items, which is no greater than the number of the bytes after it: each item takes one
-/// at least.
-pub(crate) fn count_at(bytes: &[u8]) -> Result<(u64, &[u8]), EditError>
+/// at least. Takes no memory.
+///
+/// Refuses with `ParseDiffs` where there are fewer than eight bytes, or the count is greater.
+pub fn count_at(bytes: &[u8]) -> Result<(u64, &[u8]), EditError>
     ensures { map_ok (λ x. (x.0, x.1.now)) result ≡ count_at bytes.now }
 {
     let (count, rest) = u64_at(bytes)?;

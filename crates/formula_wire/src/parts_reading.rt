@@ -1,7 +1,6 @@
 //! Corners, arrays and parameters from the front of bytes.
 
 ghost use Rattle.base_values.specs.Answers.{Answers, map_ok};
-ghost use Rattle.base_wire.specs.laws.Reading.{count_at};
 ghost use Rattle.formula_wire.specs.laws.Reading.{corner_at, item_at, parameter_at};
 
 use base_decimal::Decimal;
@@ -10,18 +9,6 @@ use base_values::{EditError, Text};
 use base_wire::read;
 use formula_tree::{ArrayItem, Corner, Parameter};
 use std::alloc::Global;
-
-/// A count of items, which is no greater than the number of the bytes after it: each item takes one
-/// at least.
-pub(crate) fn count_at(alloc: Global, bytes: &[u8]) -> Result<(u64, &[u8]), EditError>
-    ensures { Answers (map_ok (λ x. (x.0, x.1.now)) result) (count_at bytes.now) }
-{
-    let (count, rest) = read::<u64>(alloc, &(), bytes)?;
-    if (rest.len() as u64) < count {
-        return Err(EditError::ParseDiffs);
-    }
-    Ok((count, rest))
-}
 
 #[tactic(auto, unfolding(crate::specs::laws::Reading::corner_at))]
 pub(crate) fn corner_at(alloc: Global, bytes: &[u8]) -> Result<(Corner, &[u8]), EditError>

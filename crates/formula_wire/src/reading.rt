@@ -1,19 +1,21 @@
 //! Trees from the front of bytes. A reader of a tree is told how deep it may reach, so that bytes
 //! of a deeper one are refused before anything is built of what lies deeper.
 
-ghost use Rattle.std.specs.Prelude.{◌+◌};
+ghost use Rattle.std.specs.Prelude.{◌≡◌, ◌+◌, IsErrAnd};
+ghost use Rattle.base_values.specs.declared.EditError.TheVariants.{ParseDiffs};
+ghost use Rattle.base_wire.specs.Reads.{HasNoCount};
 ghost use Rattle.base_values.specs.Answers.{Answers, map_ok};
 ghost use Rattle.base_wire.specs.laws.Reading.{list_at, many_at, map_at, ◌⊗◌};
 ghost use Rattle.formula_wire.specs.laws.Reading.{corner_at, sheet_at, call_of, kinded_of, leaf_of, node_at, node_of, node_within, range_at, range_made, reference_made, text_of};
 
 use crate::codes::{compare_at, function_at, product_at, sum_at, unary_at};
 use crate::parts::{ConstantPart, ParameterPart};
-use crate::parts_reading::{corner_at, count_at};
+use crate::parts_reading::corner_at;
 use base_decimal::Decimal;
 use base_shared::Shared;
 use base_tables::Error;
 use base_values::{EditError, Items, Text};
-use base_wire::read;
+use base_wire::{count_at, read};
 use formula_tree::{MAX_DEPTH, Node};
 use std::alloc::Global;
 
@@ -158,11 +160,13 @@ fn pair_at(
     Ok(((left, right), rest))
 }
 
+/// A count of trees, and so many. Bytes without such a count are refused before any growth.
 #[cycle(nodes)]
 fn nodes_at(alloc: Global, bytes: &[u8], most: u64) -> Result<(Items<Node>, &[u8]), EditError>
-    ensures { Answers (map_ok (λ x. (x.0, x.1.now)) result) (list_at (node_within most) bytes.now) }
+    ensures read { Answers (map_ok (λ x. (x.0, x.1.now)) result) (list_at (node_within most) bytes.now) }
+    ensures early { HasNoCount bytes.now → IsErrAnd result (λ e. e ≡ ParseDiffs) }
 {
-    let (count, rest) = count_at(alloc, bytes)?;
+    let (count, rest) = count_at(bytes)?;
     let (nodes, rest) = nodes_of(alloc, count, rest, most)?;
     Ok((Items::new(nodes), rest))
 }

@@ -21,6 +21,11 @@ pub record Reads {A : Type 0} (Fits : A → Type 0) (encode : A → List ℕ) (b
   pub again : (x : A) → (rest : List ℕ) → Fits x → bytes ≡ encode x ++ rest → Answers result (Ok (x, rest))
   pub refused : IfErr result (λ e. e ≢ NoMemory → (e ≡ ParseDiffs) × BeginsWithNone Fits encode bytes)
 
+-- these bytes are the encoding of a value that bytes can carry
+pub record Encodes {A : Type 0} (Fits : A → Type 0) (encode : A → List ℕ) (bytes : List ℕ) (x : A) : Type 0 where
+  pub fits : Fits x
+  pub encoded : bytes ≡ encode x
+
 -- what reading whole bytes answers: the value of which they are the bytes, or this refusal where there is none
 pub record ReadsWhole {A : Type 0} (IsBytesOf : List ℕ → A → Type 0) (refusal : EditError) (bytes : List ℕ) (result : Result A EditError) : Type 0 where
   pub encoded : IfOk result (IsBytesOf bytes)

@@ -13,3 +13,4 @@ pub mod Form
 pub mod Format
 pub mod Formats
 pub mod Many
+pub mod Whole

@@ -14,6 +14,7 @@
 
 mod codes;
 mod entries;
+mod front;
 mod many;
 mod map_reading;
 mod map_writing;
@@ -26,6 +27,7 @@ mod values;
 mod writing;
 
 pub use codes::boolean_code;
+pub use front::counted_after;
 pub use many::put_items;
 pub use map_reading::map_at;
 pub use map_writing::put_map;

@@ -136,6 +136,13 @@ after front read bytes = do
   rest ← rest_after front bytes
   read rest
 
+-- what stands after these first bytes, which begins with a count of what follows it
+abbrev pub counted_after : List ℕ → List ℕ → Result (List ℕ) EditError
+counted_after front bytes = do
+  rest ← rest_after front bytes
+  n ← count_at rest
+  Ok rest
+
 -- a value that takes all of the bytes
 abbrev pub whole : {A : Type 0} → Reader A → List ℕ → Result A EditError
 whole read bytes = do

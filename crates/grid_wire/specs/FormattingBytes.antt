@@ -1,6 +1,8 @@
 -- The bytes of rules with their parts and priorities.
-use Rattle.std.specs.Prelude.{ℕ, ◌<◌, ◌^◌, List, ◌++◌}
-use Rattle.std.specs.List.{AllByRecursion}
+use Rattle.std.specs.Prelude.{◌≡◌, ℕ, ◌<◌, ◌^◌, List, ◌++◌, true}
+use Rattle.std.specs.List.{list_all}
+use Rattle.formula_tree.specs.Depth.{is_within}
+use Rattle.format_rules.specs.RuleTrees.{each_tree}
 use Rattle.std.specs.Int.{w32, to_be_bytes}
 use Rattle.format_rules.specs.declared.ConditionalFormatting.{ConditionalFormatting}
 use Rattle.base_wire.specs.Encoding.{encode_list, FitsItems}
@@ -27,5 +29,6 @@ encode_formattings = encode_list encode_formatting
 abbrev pub FitsFormattings : List ConditionalFormatting → Type 0
 FitsFormattings = FitsItems FitsFormatting
 
+-- what writing asks of the rules of a sheet, whose numbers are canonical: their formulas are at most 64 deep
 abbrev pub AreKnownFormattings : List ConditionalFormatting → Type 0
-AreKnownFormattings = AllByRecursion IsKnownFormatting
+AreKnownFormattings rules = list_all (λ (formatting : ConditionalFormatting). each_tree (is_within 64) formatting.rule) rules ≡ true

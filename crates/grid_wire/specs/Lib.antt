@@ -11,4 +11,5 @@ pub mod StateBytes
 pub mod LineBytes
 pub mod NameBytes
 pub mod SheetBytes
+pub mod BookBytes
 pub mod laws

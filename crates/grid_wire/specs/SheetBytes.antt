@@ -1,14 +1,15 @@
 -- The bytes of whole sheets.
-use Rattle.std.specs.Prelude.{ℕ, ℤ, ◌<◌, ◌^◌, List, ◌++◌, IfSome, FitsSigned}
+use Rattle.std.specs.Prelude.{ℕ, ℤ, ◌<◌, ◌^◌, List, ◌++◌, IfSome, IsTrue, FitsSigned}
 use Rattle.std.specs.FinMap.{get}
 use Rattle.std.specs.Int.{w32, to_be_bytes}
 use Rattle.base_values.specs.declared.Position.{Position}
 use Rattle.base_values.specs.Places.{IsPlace, IsRow, IsColumn}
 use Rattle.sheet_grid.specs.Sheet.{Sheet}
+use Rattle.sheet_grid.specs.laws.FittingCells.{is_shallow_entry}
 use Rattle.base_wire.specs.Encoding.{encode_signed, encode_code, boolean_code, encode_text, FitsText}
 use Rattle.base_wire.specs.MapBytes.{encode_map, FitsMap}
 use Rattle.grid_wire.specs.StyleBytes.{encode_color, FitsColor}
-use Rattle.grid_wire.specs.CellBytes.{encode_position, encode_cell, FitsCell, IsKnownCell}
+use Rattle.grid_wire.specs.CellBytes.{encode_position, encode_cell, FitsCell}
 use Rattle.grid_wire.specs.LinkBytes.{encode_link, FitsLink}
 use Rattle.grid_wire.specs.MergeBytes.{encode_merges, FitsMerges}
 use Rattle.grid_wire.specs.FormattingBytes.{encode_formattings, FitsFormattings, AreKnownFormattings}
@@ -60,9 +61,9 @@ pub record FitsSheet (sheet : Sheet) : Type 0 where
   pub fields : FitsFields sheet
   pub entries : FitsEntries sheet
 
--- what writing asks: numbers are canonical, formulas are at most 64 deep, and each line has something of its own
+-- what writing asks of a sheet, whose numbers are canonical: formulas are at most 64 deep, and each line has something of its own
 pub record IsKnownSheet (sheet : Sheet) : Type 0 where
   pub rows : (row : ℤ) → IfSome (get sheet.rows row) IsKnownLine
   pub columns : (column : ℤ) → IfSome (get sheet.columns column) IsKnownLine
-  pub cells : (place : Position) → IfSome (get sheet.cells place) IsKnownCell
+  pub cells : (place : Position) → IsTrue (is_shallow_entry (get sheet.cells place))
   pub formattings : AreKnownFormattings sheet.formattings

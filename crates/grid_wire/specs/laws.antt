@@ -19,3 +19,5 @@ pub mod KeyLaws
 pub mod LineLaws
 pub mod NameLaws
 pub mod SheetLaws
+pub mod FrontLaws
+pub mod BookLaws

@@ -92,6 +92,7 @@ impl Part for RuleListPart {
 
     ghost reading = { formattings_at };
 
+    #[tactic(auto, using(crate::specs::laws::KnownLaws::rules_known))]
     fn put(out: &mut Vec<u8>, value: &RuleList) -> Result<(), AllocError> {
         put_items::<FormattingPart>(out, value.as_slice())
     }

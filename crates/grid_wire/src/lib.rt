@@ -8,13 +8,14 @@
 #![tactic(auto)]
 
 mod cell_parts;
-mod encode_rule;
-mod encode_style;
+mod decode;
+mod encode;
 mod formattings;
 mod keys;
 mod lines;
 mod merges;
 mod names;
+mod names_list;
 mod reading_cells;
 mod reading_rules;
 mod reading_settings;
@@ -33,8 +34,8 @@ mod writing_settings;
 mod writing_sheets;
 
 pub use cell_parts::{CellPart, ColorPart, PositionPart, StylePart};
-pub use encode_rule::encode_rule;
-pub use encode_style::encode_style;
+pub use decode::decode_workbook;
+pub use encode::{encode_rule, encode_style, encode_workbook};
 pub use formattings::{FormattingPart, RuleListPart};
 pub use lines::LinePart;
 pub use merges::{LinkPart, MergeListPart};

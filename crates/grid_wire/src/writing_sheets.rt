@@ -16,7 +16,8 @@ use base_wire::{Part, boolean_code};
 use sheet_grid::Worksheet;
 use std::alloc::AllocError;
 
-fn put_text(out: &mut Vec<u8>, text: &str) -> Result<(), AllocError>
+/// Adds the length of a text, and its bytes.
+pub(crate) fn put_text(out: &mut Vec<u8>, text: &str) -> Result<(), AllocError>
     ensures encoded { OnOk result (out.new.items ≡ out.old.items ++ encode_text text.now) }
     ensures fits { OnOk result (FitsText text.now) }
 {

@@ -1,5 +1,5 @@
 -- The bytes of a queue of diffs.
-use Rattle.std.specs.Prelude.{◌≢◌, ℕ, List, ◌∷◌, ◌++◌, IfSome, codes}
+use Rattle.std.specs.Prelude.{ℕ, List, ◌∷◌, ◌++◌, IfSome, codes}
 use Rattle.std.specs.List.{AllByRecursion}
 use Rattle.sheet_history.specs.declared.FieldChange.TheVariants as change
 use Rattle.sheet_history.specs.declared.SettingChange.TheVariants as setting
@@ -9,6 +9,7 @@ use Rattle.sheet_history.specs.Entries.{line_tag}
 use Rattle.sheet_history.specs.declared.DiffType.{DiffType}
 use Rattle.sheet_history.specs.declared.DiffType.TheVariants.{Undo, Redo}
 use Rattle.sheet_history.specs.declared.QueueDiffs.{QueueDiffs}
+use Rattle.base_wire.specs.Reads.{Encodes}
 use Rattle.base_wire.specs.Encoding.{encode_code, encode_list, encode_text, FitsItems}
 use Rattle.grid_wire.specs.TableBytes.{encode_locale, encode_zone}
 use Rattle.grid_wire.specs.ThemeBytes.{encode_theme}
@@ -125,6 +126,10 @@ FitsQueue = FitsItems FitsEntry
 abbrev pub IsKnownQueue : List QueueDiffs → Type 0
 IsKnownQueue = AllByRecursion IsKnownEntry
 
--- these bytes are the encoding of no queue that fits
+-- these bytes are the queue's
+abbrev pub IsQueue : List ℕ → List QueueDiffs → Type 0
+IsQueue = Encodes FitsQueue encode_queue
+
+-- they are those of no queue
 abbrev pub IsNoQueue : List ℕ → Type 0
-IsNoQueue bytes = (queue : List QueueDiffs) → FitsQueue queue → bytes ≢ encode_queue queue
+IsNoQueue bytes = (queue : List QueueDiffs) → IsQueue bytes queue → ⊥

@@ -1,13 +1,13 @@
 //! Queues from their bytes.
 
-ghost use Rattle.std.specs.Prelude.{◌≡◌, ◌≢◌, IfErr, IfOk, List};
+ghost use Rattle.std.specs.Prelude.{◌≡◌, Err};
 ghost use Rattle.base_values.specs.Answers.{Answers, map_ok};
-ghost use Rattle.base_values.specs.declared.EditError.TheVariants.{NoMemory, ParseDiffs};
+ghost use Rattle.base_values.specs.declared.EditError.TheVariants.{ParseDiffs};
+ghost use Rattle.base_wire.specs.Reads.{HasNoFront, ReadsWhole};
 ghost use Rattle.base_wire.specs.laws.Reading.{code_at, rest_after};
 ghost use Rattle.sheet_wire.specs.laws.Reading.{change_at, axes, cell_diff_at, diff_at, lines_diff_at, link_diff_at, merges_diff_at, directions, entry_at, queue_of};
 ghost use Rattle.sheet_wire.specs.LinesBytes.{axis_code};
-ghost use Rattle.sheet_wire.specs.QueueBytes.{direction_code, magic, encode_queue, FitsQueue, IsNoQueue};
-ghost use Rattle.sheet_history.specs.declared.QueueDiffs.{QueueDiffs};
+ghost use Rattle.sheet_wire.specs.QueueBytes.{direction_code, magic, IsQueue};
 
 use crate::attributes::attr_diff_at;
 use crate::codes::{axis_of, direction_of};
@@ -23,8 +23,9 @@ use crate::{EditPart, KeptLinesPart};
 use base_shared::Shared;
 use base_styles::Style;
 use base_values::{EditError, Items, Position};
-use base_wire::{Part, read};
+use base_wire::{Part, counted_after, read};
 use grid_wire::{CellPart, LinkPart, MergeListPart, PositionPart};
+use sheet_grid::DefaultStyle;
 use sheet_history::{Diff, DiffType, LineAxis, QueueDiffs};
 use std::alloc::Global;
 
@@ -199,24 +200,43 @@ fn read_queue(
     Ok(entries)
 }
 
+/// The same, where the first bytes are tested before any memory is taken.
+fn queue_at(
+    alloc: Global,
+    plain: &Shared<Style>,
+    bytes: &[u8],
+) -> Result<Items<QueueDiffs>, EditError>
+    ensures read { Answers result (queue_of bytes.now) }
+    ensures early { HasNoFront magic bytes.now → result ≡ Err ParseDiffs }
+{
+    counted_after(b"ICQ1", bytes)?;
+    read_queue(alloc, plain, bytes)
+}
+
 /// The queue of diffs that all of these bytes encode (docs/FORMATS.md, "Bytes"). Each style in it that is equal
 /// to the plain one shares it.
 ///
 /// `ParseDiffs` where they are the encoding of no queue: where they are cut short or go on, begin
 /// otherwise, or where a tag, a code, a count, a decimal or a text in them is not one. Else
-/// refuses with `NoMemory` alone.
-pub fn decode_queue(
+/// refuses with `NoMemory` alone, and not where they begin otherwise or their first count is too great.
+pub fn decode_queue_sharing(
     alloc: Global,
     plain: &Shared<Style>,
     bytes: &[u8],
 ) -> Result<Items<QueueDiffs>, EditError>
-    // What is read was encoded so.
-    ensures encoded { IfOk result (λ queue. bytes.now ≡ encode_queue queue) }
-    ensures fits { IfOk result FitsQueue }
-
-    // What is encoded is read, so bytes are refused only where they are no queue.
-    ensures again { (queue : List QueueDiffs) → FitsQueue queue → bytes.now ≡ encode_queue queue → Answers result (Ok queue) }
-    ensures refused { IfErr result (λ e. e ≢ NoMemory → (e ≡ ParseDiffs) × IsNoQueue bytes.now) }
+    ensures read { ReadsWhole IsQueue ParseDiffs bytes.now result }
+    ensures early { HasNoFront magic bytes.now → result ≡ Err ParseDiffs }
 {
-    read_queue(alloc, plain, bytes)
+    queue_at(alloc, plain, bytes)
+}
+
+/// The queue of diffs that all of these bytes encode (docs/FORMATS.md, "Bytes"). The errors are those of
+/// `decode_queue_sharing`, which is for a caller that has made the default style.
+pub fn decode_queue(alloc: Global, bytes: &[u8]) -> Result<Items<QueueDiffs>, EditError>
+    ensures read { ReadsWhole IsQueue ParseDiffs bytes.now result }
+    ensures early { HasNoFront magic bytes.now → result ≡ Err ParseDiffs }
+{
+    counted_after(b"ICQ1", bytes)?;
+    let plain = DefaultStyle::new(alloc)?;
+    decode_queue_sharing(alloc, plain.shared(), bytes)
 }

@@ -5,7 +5,7 @@ ghost use Rattle.base_values.specs.declared.EditError.TheVariants.{NoMemory};
 ghost use Rattle.sheet_wire.specs.KeptBytes.{IsKnownKept};
 ghost use Rattle.sheet_wire.specs.ChangeBytes.{encode_change, FitsChange};
 ghost use Rattle.sheet_wire.specs.LinesBytes.{encode_lines, FitsLines};
-ghost use Rattle.sheet_wire.specs.QueueBytes.{encode_diff, encode_entry, encode_queue, FitsDiff, FitsEntry, FitsQueue, IsKnownDiff, IsKnownEntry, IsKnownQueue};
+ghost use Rattle.sheet_wire.specs.QueueBytes.{encode_diff, encode_entry, FitsDiff, FitsEntry, IsKnownDiff, IsKnownEntry, IsKnownQueue, IsQueue};
 
 use crate::attributes::{line_tag, put_attr_change};
 use crate::codes::{axis_code, direction_code};
@@ -164,8 +164,7 @@ pub(crate) fn put_entry(out: &mut Vec<u8>, entry: &QueueDiffs) -> Result<(), All
 #[tactic(auto, unfolding(crate::specs::QueueBytes::encode_queue))]
 pub fn encode_queue(alloc: Global, queue: &[QueueDiffs]) -> Result<Vec<u8>, EditError>
     requires known { IsKnownQueue queue.now }
-    ensures encoded { IfOk result (λ bytes. bytes.items ≡ encode_queue queue.now) }
-    ensures fits { IfOk result (λ _. FitsQueue queue.now) }
+    ensures encoded { IfOk result (λ bytes. IsQueue bytes.items queue.now) }
     ensures only { IsOkUnless result NoMemory }
 {
     let mut out = Vec::from_slice(alloc, b"ICQ1")?;

@@ -1,9 +1,9 @@
 -- What writing asks of a rule is that its numbers are canonical and its formulas at most 64 deep, and what bytes carry has both.
 use Rattle.std.proofs.Common.{◌≡◌, Bool, true, List, [], ◌∷◌, Option, Some, None, refl}
-use Rattle.std.specs.Prelude.{IfSome}
+use Rattle.std.specs.Prelude.{IfSome, IsTrue}
 use Rattle.std.specs.List.{AllByRecursion, list_all}
 use Rattle.std.specs.Option.{option_map_or}
-use Rattle.std.proofs.lemmas.List.Elements.{All-from_recursion}
+use Rattle.std.proofs.lemmas.List.Elements.{All-from_recursion, recursion_from_All}
 use Rattle.formula_tree.specs.declared.Node.{Node}
 use Rattle.formula_tree.specs.Depth.{is_within}
 use Rattle.formula_tree.specs.Numbers as tree
@@ -21,7 +21,14 @@ use Rattle.format_rules.specs.RuleTrees.{cfvo_passes, each_cfvo, own_trees_pass,
 use Rattle.format_rules.specs.laws.RuleTreeLaws.{left, right, both}
 use Rattle.grid_wire.specs.ThresholdBytes.{FitsCfvo, IsKnownCfvo, FitsColorThreshold, IsKnownColorThreshold, FitsIconThreshold, IsKnownIconThreshold}
 use Rattle.grid_wire.specs.RuleBytes.{FitsRule, IsKnownRule}
-use Rattle.grid_wire.specs.FormattingBytes.{FitsFormatting, FitsFormattings}
+use Rattle.grid_wire.specs.FormattingBytes.{AreKnownFormattings, FitsFormatting, FitsFormattings, IsKnownFormatting}
+use Rattle.grid_wire.specs.NameBytes.{AreKnownNames, FitsName, FitsNames, IsKnownName}
+use Rattle.grid_wire.specs.CellBytes.{IsKnownCell}
+use Rattle.sheet_grid.specs.declared.Cell.{Cell}
+use Rattle.sheet_grid.specs.CanonicalCell.{IsCanonicalCell}
+use Rattle.sheet_grid.specs.laws.FittingCells.{is_shallow_entry}
+use Rattle.defined_names.specs.declared.DefinedName.{DefinedName}
+use Rattle.defined_names.specs.Names.{AreCanonicalNames, IsCanonicalName}
 
 -- ---- known
 
@@ -157,3 +164,32 @@ each_canonical (x ∷ xs) all = (canonical_from_fits x.rule all.0.rule, each_can
 -- so are those of each rule of a list
 pub canonical_rules_from_fit : (rules : List ConditionalFormatting) → FitsFormattings rules → AreCanonicalRules rules
 canonical_rules_from_fit rules fits = All-from_recursion IsCanonicalFormatting rules (each_canonical rules fits.each)
+
+-- ---- what writing asks of values whose numbers are canonical
+
+pub known_entry : (entry : Option Cell) → IfSome entry IsCanonicalCell → IsTrue (is_shallow_entry entry) → IfSome entry IsKnownCell
+known_entry None kept shallow = tt
+known_entry (Some cell) kept shallow = record { canonical = kept; shallow = shallow }
+
+each_known : (rules : List ConditionalFormatting) → AllByRecursion IsCanonicalFormatting rules → AreKnownFormattings rules → AllByRecursion IsKnownFormatting rules
+each_known [] numbers deep = tt
+each_known (x ∷ xs) numbers deep =
+    (rule_known x.rule numbers.0 (left (each_tree (is_within 64) x.rule) _ deep), each_known xs numbers.1 (right (each_tree (is_within 64) x.rule) _ deep))
+
+pub rules_known : (rules : List ConditionalFormatting) → AreCanonicalRules rules → AreKnownFormattings rules → AllByRecursion IsKnownFormatting rules
+rules_known rules numbers deep = each_known rules (recursion_from_All IsCanonicalFormatting rules numbers) deep
+
+each_name_known : (names : List DefinedName) → AllByRecursion IsCanonicalName names → AreKnownNames names → AllByRecursion IsKnownName names
+each_name_known [] numbers deep = tt
+each_name_known (x ∷ xs) numbers deep =
+    (record { canonical = numbers.0; depth = left (is_within 64 x.formula) _ deep }, each_name_known xs numbers.1 (right (is_within 64 x.formula) _ deep))
+
+pub names_known : (names : List DefinedName) → AreCanonicalNames names → AreKnownNames names → AllByRecursion IsKnownName names
+names_known names numbers deep = each_name_known names (recursion_from_All IsCanonicalName names numbers) deep
+
+each_name_canonical : (names : List DefinedName) → AllByRecursion FitsName names → AllByRecursion IsCanonicalName names
+each_name_canonical [] all = tt
+each_name_canonical (x ∷ xs) all = (canonical_from_carried x.formula all.0.formula.carried, each_name_canonical xs all.1)
+
+pub canonical_names_from_fit : (names : List DefinedName) → FitsNames names → AreCanonicalNames names
+canonical_names_from_fit names fits = All-from_recursion IsCanonicalName names (each_name_canonical names fits.each)

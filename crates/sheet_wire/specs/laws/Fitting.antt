@@ -30,8 +30,8 @@ use Rattle.formula_wire.specs.Carried.{FitsNode, IsKnownNode}
 use Rattle.formula_wire.specs.laws.CanonicalLaws.{canonical_from_carried}
 use Rattle.grid_wire.specs.CellBytes.{FitsCell, IsKnownCell}
 use Rattle.grid_wire.specs.laws.Fitting.{canonical_cell_from_fits}
-use Rattle.grid_wire.specs.FormattingBytes.{FitsFormatting, IsKnownFormatting, AreKnownFormattings}
-use Rattle.grid_wire.specs.laws.KnownLaws.{canonical_rules_from_fit, rule_known}
+use Rattle.grid_wire.specs.FormattingBytes.{FitsFormatting, IsKnownFormatting}
+use Rattle.grid_wire.specs.laws.KnownLaws.{canonical_rules_from_fit, known_entry, rule_known}
 use Rattle.sheet_wire.specs.PartBytes.{FitsSheetIndex}
 use Rattle.sheet_wire.specs.laws.KeptFits.{canonical_formatting_from_fits, formulas_from_fits, kept_lines_from_fits}
 use Rattle.base_wire.specs.laws.MapFits.{values_hold}
@@ -133,10 +133,6 @@ canonical_queue_from_fits queue fits = All-from_recursion (λ entry. IsCanonical
 
 -- ---- what encoding asks
 
-known_entry : (entry : Option Cell) → IfSome entry IsCanonicalCell → IsTrue (is_shallow_entry entry) → IfSome entry IsKnownCell
-known_entry None kept shallow = tt
-known_entry (Some cell) kept shallow = record { canonical = kept; shallow = shallow }
-
 known_tree : (tree : Option Node) → IfSome tree (λ t. IsTrue (has_canonical_numbers t)) → IfSome tree (λ t. IsTrue (is_within 64 t)) → IfSome tree IsKnownNode
 known_tree None kept shallow = tt
 known_tree (Some tree) kept shallow = record { canonical = kept; depth = shallow }
@@ -149,20 +145,13 @@ known_formatting : (rule : Option ConditionalFormatting) → IfSome rule IsCanon
 known_formatting None kept shallow = tt
 known_formatting (Some rule) kept shallow = rule_known rule.rule kept shallow
 
-known_rules : (rules : List ConditionalFormatting) → AreCanonicalRules rules → list_all is_shallow_rule rules ≡ true → AreKnownFormattings rules
-known_rules rules numbers shallow = go rules (recursion_from_All IsCanonicalFormatting rules numbers) shallow
-  where
-    go : (xs : List ConditionalFormatting) → AllByRecursion IsCanonicalFormatting xs → list_all is_shallow_rule xs ≡ true → AreKnownFormattings xs
-    go [] all deep = tt
-    go (x ∷ xs) all deep = let parts = both (is_shallow_rule x) (list_all is_shallow_rule xs) deep in (rule_known x.rule all.0 parts.0, go xs all.1 parts.1)
-
 known_sheet : (kept : KeptSheet) → IsCanonicalSheet kept → IsShallowSheet kept → HasOwnLines kept → IsKnownKeptSheet kept
 known_sheet kept numbers shallow own = record {
   sheet = record {
     rows = own.rows;
     columns = own.columns;
-    cells = λ place. known_entry (get kept.sheet.cells place) (numbers.cells place) (shallow.cells place);
-    formattings = known_rules kept.sheet.formattings numbers.formattings shallow.formattings;
+    cells = shallow.cells;
+    formattings = shallow.formattings;
   };
   names = λ place. known_name (get kept.names place) (numbers.names place) (shallow.names place);
 }

@@ -1,35 +1,28 @@
 -- The laws of the bytes of queues.
-use Rattle.std.proofs.Common.{◌≡◌, ℕ, List, Ok, Err, ap, sym, subst, ◌∙◌}
+use Rattle.std.proofs.Common.{◌≡◌, ℕ, List, Result, Err, refl}
+use Rattle.base_values.specs.Answers.{Answers}
 use Rattle.base_values.specs.declared.EditError.{EditError}
 use Rattle.base_values.specs.declared.EditError.TheVariants.{ParseDiffs}
 use Rattle.sheet_history.specs.declared.QueueDiffs.{QueueDiffs}
-use Rattle.base_wire.specs.laws.Again.{whole_again}
-use Rattle.base_wire.specs.laws.Refusals.{Refuses, whole_refuses}
-use Rattle.base_wire.specs.laws.Encoded.{IsBytes, whole_encoded}
-use Rattle.sheet_wire.specs.QueueBytes.{encode_queue, FitsQueue, IsNoQueue}
-use Rattle.sheet_wire.specs.laws.Reading.{queue_of}
+use Rattle.base_wire.specs.Reads.{HasNoFront, ReadsWhole}
+use Rattle.base_wire.specs.laws.Encoded.{IsBytes}
+use Rattle.base_wire.specs.laws.Reading.{counted_after, list_at}
+use Rattle.base_wire.specs.laws.Whole.{no_front, reads_whole}
+use Rattle.grid_wire.specs.laws.FrontLaws.{front_refused, list_asks}
+use Rattle.sheet_wire.specs.QueueBytes.{encode_queue, magic, IsQueue}
+use Rattle.sheet_wire.specs.laws.Reading.{entry_at, queue_of}
 use Rattle.sheet_wire.specs.laws.QueueFormats.{queue_format}
 
--- a queue that bytes can carry is read again from its encoding
-pub queue_again : (queue : List QueueDiffs) → FitsQueue queue → queue_of (encode_queue queue) ≡ Ok queue
+-- what answers as the steps of the reader reads the bytes of queues
+pub queue_reads : (bytes : List ℕ) (result : Result (List QueueDiffs) EditError) → IsBytes bytes → Answers result (queue_of bytes) → ReadsWhole IsQueue ParseDiffs bytes result
 unfolding encode_queue queue_of
-queue_again queue fits = whole_again queue_format.again queue fits
+queue_reads bytes result small h = reads_whole queue_format bytes result small h
 
--- what is read of bytes is a queue that fits, and they are its encoding
-pub queue_encoded : (bytes : List ℕ) (queue : List QueueDiffs) → IsBytes bytes → queue_of bytes ≡ Ok queue → (bytes ≡ encode_queue queue) × FitsQueue queue
-unfolding encode_queue queue_of
-queue_encoded bytes queue small e = whole_encoded queue_format.encoded bytes queue small e
-
-queue_refuses : (bytes : List ℕ) → Refuses (queue_of bytes)
+-- bytes that do not begin as a queue's are refused as such
+pub queue_refused : (bytes : List ℕ) (e : EditError) → counted_after magic bytes ≡ Err e → queue_of bytes ≡ Err e
 unfolding queue_of
-queue_refuses bytes = whole_refuses queue_format.plain bytes
+queue_refused bytes e refused = front_refused (list_at entry_at) (list_asks entry_at) magic bytes e refused
 
--- bytes that are refused are no queue
-pub refused_no_queue : (bytes : List ℕ) (e : EditError) → queue_of bytes ≡ Err e → (e ≡ ParseDiffs) × IsNoQueue bytes
-refused_no_queue bytes e h = (
-  subst Refuses h (queue_refuses bytes),
-  λ queue fits same. read_twice (sym h ∙ ap queue_of same ∙ queue_again queue fits),
-)
-  where
-    read_twice : {A : Type 0} {x : A} → Err e ≡ Ok x → ⊥
-    read_twice both = cc
+-- they are refused at once
+pub no_queue_front : (bytes : List ℕ) → HasNoFront magic bytes → counted_after magic bytes ≡ Err ParseDiffs
+no_queue_front bytes none = no_front magic bytes refl none

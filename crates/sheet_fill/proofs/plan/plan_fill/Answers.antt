@@ -28,14 +28,14 @@ returns-in_err-range-clause-planned g c =
     c.in_ok-wanted.wanted (sym (c.in_ok-wanted.ensures.range ∙ (λ i. range_of a (c.source_of.ensures i) (to_z-of_z w32 c.args.to c.ranges.to i))))
     c.in_err-range.field-0.0 (λ same. c.in_err-range.ensures.sure (ap Err same)) (sym c.in_err-range.ensures.tested))
 
-pub returns-in_err-plain-clause-planned : goal.returns-in_err-plain-clause-planned
-returns-in_err-plain-clause-planned g c =
+pub returns-in_err-default-clause-planned : goal.returns-in_err-default-clause-planned
+returns-in_err-default-clause-planned g c =
     let a = g.A.Axis.along in
-    let p = err_from_is_err_and c.from_residual-in_err-plain.result c.from_residual-in_err-plain.ensures.1 in
+    let p = err_from_is_err_and c.from_residual-in_err-default.result c.from_residual-in_err-default.ensures.1 in
     let free = planned_free a c.args.area.now c.args.to c.args.language c.args.workbook.now c.in_ok-sheet.sheet.now (sym c.in_ok-sheet.ensures)
     c.in_ok-wanted.wanted (sym (c.in_ok-wanted.ensures.range ∙ (λ i. range_of a (c.source_of.ensures i) (to_z-of_z w32 c.args.to c.ranges.to i))))
     c.in_ok-range.range (sym c.in_ok-range.ensures.tested) in
-    rw (p.1, p.2) (late (fill_planned a c.args.area.now c.args.to c.args.language c.args.workbook.now) _ free c.in_err-plain.field-0.0 _ c.in_err-plain.ensures)
+    rw (p.1, p.2) (late (fill_planned a c.args.area.now c.args.to c.args.language c.args.workbook.now) _ free c.in_err-default.field-0.0 _ c.in_err-default.ensures)
 
 pub returns-clause-planned : goal.returns-clause-planned
 returns-clause-planned g c =

@@ -1,6 +1,6 @@
 //! Workbooks from their bytes.
 
-ghost use Rattle.std.specs.Prelude.{◌≡◌, Err, IfOk};
+ghost use Rattle.std.specs.Prelude.{◌≡◌, Err};
 ghost use Rattle.base_values.specs.Answers.{Answers, map_ok};
 ghost use Rattle.base_values.specs.declared.EditError.TheVariants.{ParseDiffs, ParseWorkbook};
 ghost use Rattle.base_wire.specs.Reads.{HasNoFront, ReadsWhole};

@@ -8,7 +8,7 @@ use Rattle.sheet_grid.specs.Book.{Book}
 use Rattle.sheet_grid.specs.Computed.{Values}
 use Rattle.sheet_history.specs.declared.QueueDiffs.{QueueDiffs}
 use Rattle.sheet_history.specs.Diffs.{follow, in_entry, replayed, replayed_from}
-use Rattle.sheet_wire.specs.QueueBytes.{FitsQueue, encode_queue}
+use Rattle.sheet_wire.specs.QueueBytes.{IsQueue}
 use Rattle.open_book.specs.Document.{Document}
 use Rattle.open_book.specs.Machine.{State, received, go_on, outside, applied_from, applied}
 use Rattle.open_book.specs.Sound.{WhereCarried}
@@ -175,12 +175,12 @@ module _ (entries : List QueueDiffs) (s : State) (later : Book) (new : Document)
 
 -- bytes that carry the workbook lead to the later one, and memory alone stops them
 module _ (result : Result (Unit {0}) EditError) (old new : Document) (s : State) (bytes : List ℕ) (stands : StandsFor old s)
-    (leaves : (entries : List QueueDiffs) → FitsQueue entries → bytes ≡ encode_queue entries → Leaves result new entries s) where
+    (leaves : (entries : List QueueDiffs) → IsQueue bytes entries → Leaves result new entries s) where
   from_there : (entries : List QueueDiffs) (later : Book) → replayed old.book entries ≡ Ok later → replayed s.present entries ≡ Ok later
   from_there entries later led = subst (λ (book : Book). replayed book entries ≡ Ok later) (ap (λ (d : Document). d.book) stands.document) led
 
   pub carried_there : WhereCarried bytes old.book (λ later. OnOk result (new.book ≡ later))
-  carried_there = λ entries later fits carries. led_there entries s later new (from_there entries later carries.led) result (leaves entries fits carries.encoded)
+  carried_there = λ entries later fits carries. led_there entries s later new (from_there entries later carries.led) result (leaves entries (record { fits = fits; encoded = carries.encoded }))
 
   pub carried_only : WhereCarried bytes old.book (λ later. IsOkUnless result NoMemory)
-  carried_only = λ entries later fits carries. led_only entries s later new (from_there entries later carries.led) result (leaves entries fits carries.encoded)
+  carried_only = λ entries later fits carries. led_only entries s later new (from_there entries later carries.led) result (leaves entries (record { fits = fits; encoded = carries.encoded }))

@@ -68,18 +68,13 @@ use Rattle.rule_edits.specs.laws.Lists.{later_stand}
 use Rattle.edit_plans.specs.RuleEdits.{all_diffs, diffs_of, rules_record}
 use Rattle.edit_plans.specs.SheetEdits.{copy_diff, deletion_diff, move_diff, new_diff, one_diff, rename_diff}
 use Rattle.open_book.specs.Encodable.{AreEncodable}
-use Rattle.open_book.proofs.KeptLines.{own_lines}
+use Rattle.sheet_wire.specs.laws.KnownBooks.{own_lines, shallow_tree}
 
 -- ---- a deleted sheet
 
 comes_back : (b : Bool) (r : Result Book EditError) (w : Book) → cond b r (Err (DiffRefused 0 0)) ≡ Ok w → b ≡ true
 comes_back true r w is = refl
 comes_back false r w is = absurd (let never : ◌≡◌ {A = Result Book EditError} (Err (DiffRefused 0 0)) (Ok w) = is in cc)
-
--- a tree that fits is not deep
-shallow_tree : (place : Position) (tree : Node) → tree_fits_at place tree ≡ true → IsTrue (is_within 64 tree)
-unfolding tree_fits_at
-shallow_tree place tree fits = (both _ _ (both _ _ fits).0).1
 
 module _ (index : ℕ) (sheet : Sheet) (w : Book) (rules : IsWellFormed w) (found : slice_get w.worksheets index ≡ Some sheet) where
   abbrev kept : KeptSheet

@@ -17,7 +17,7 @@ use Rattle.sheet_history.specs.declared.QueueDiffs.{QueueDiffs}
 use Rattle.sheet_history.specs.LineDiffs.{along_of}
 use Rattle.sheet_history.specs.Diffs.{book_after, book_before, replayed}
 use Rattle.sheet_history.specs.Records.{IsRecord, line_record}
-use Rattle.sheet_wire.specs.QueueBytes.{FitsQueue, IsKnownQueue, encode_queue}
+use Rattle.sheet_wire.specs.QueueBytes.{FitsQueue, IsKnownQueue, IsQueue, encode_queue}
 use Rattle.open_book.specs.Encodable.{AreEncodable}
 use Rattle.edit_plans.specs.Edits.{Edit, changed, grown_move, is_silent}
 use Rattle.edit_plans.specs.Edits.Edit.{Lines, MoveLines, AddSheet, CopySheet, DeleteSheet, MoveSheet, RenameSheet, ChangeNames, EditRules}
@@ -88,7 +88,7 @@ CarriesOn bytes s = IfSome s.synced (λ book. Carries s.sent bytes book s.presen
 
 -- what is said of the entries that bytes encode
 abbrev pub WhereEncoded : List ℕ → (List QueueDiffs → Type 0) → Type 0
-WhereEncoded bytes Said = (entries : List QueueDiffs) → FitsQueue entries → bytes ≡ encode_queue entries → Said entries
+WhereEncoded bytes Said = (entries : List QueueDiffs) → IsQueue bytes entries → Said entries
 
 -- what is said of each later workbook to which bytes carry an earlier one
 abbrev pub WhereCarried : List ℕ → Book → (Book → Type 0) → Type 0

@@ -57,6 +57,11 @@ pub record Opens (result : Result Session EditError) (expected : Result State Ed
   pub refused : IfErr result (λ error. error ≢ NoMemory → expected ≡ Err error)
   pub memory : IfErr result (λ error. error ≡ NoMemory → IsOk expected)
 
+-- the same of a call whose reading takes memory: it may be out of memory where a refusal is expected
+pub record OpensOrNoMemory (result : Result Session EditError) (expected : Result State EditError) : Type 0 where
+  pub done : IfOk result (λ session. IsOkAnd expected (StandsFor session.document))
+  pub refused : IfErr result (λ error. error ≢ NoMemory → expected ≡ Err error)
+
 -- a list is the record of an edit that led from one workbook to another, with canonical numbers, and the step is sound
 pub record IsStepBy (edit : Edit) (earlier : Book) (list : List Diff) (later : Book) : Type 0 where
   pub recorded : list ≡ record_of edit earlier later

@@ -12,3 +12,4 @@ pub mod SettingFormats
 pub mod TreesFormats
 pub mod RulesFormats
 pub mod Fitting
+pub mod KnownBooks

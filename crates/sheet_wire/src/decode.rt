@@ -11,11 +11,7 @@ ghost use Rattle.sheet_wire.specs.QueueBytes.{direction_code, magic, IsQueue};
 
 use crate::attributes::attr_diff_at;
 use crate::codes::{axis_of, direction_of};
-use crate::decode_sheets::{
-    color_diff_at, copy_diff_at, deletion_diff_at, frozen_columns_diff_at, frozen_rows_diff_at,
-    grid_diff_at, move_diff_at, name_diff_at, new_diff_at, rename_diff_at, sheet_change_at,
-    state_diff_at,
-};
+use crate::decode_sheets::{color_diff_at, copy_diff_at, deletion_diff_at, frozen_columns_diff_at, frozen_rows_diff_at, grid_diff_at, move_diff_at, name_diff_at, new_diff_at, rename_diff_at, sheet_change_at, state_diff_at, };
 use crate::parts::{DiffPart, EntryPart};
 use crate::rule_changes::rule_diff_at;
 use crate::settings::{locale_diff_at, theme_diff_at, title_diff_at, zone_diff_at};

@@ -3,6 +3,7 @@ mod SettingSteps
 mod Named
 mod Refusals
 mod Unread
+mod Saved
 mod Typed
 mod NamesTyped
 mod RulesTyped

@@ -6,7 +6,9 @@ use Rattle.base_values.specs.Answers.{Answers, Edits}
 use Rattle.sheet_grid.specs.Book.{Book}
 use Rattle.sheet_grid.specs.Computed.{Values}
 use Rattle.sheet_history.specs.declared.QueueDiffs.{QueueDiffs}
-use Rattle.sheet_wire.specs.QueueBytes.{IsNoQueue}
+use Rattle.base_wire.specs.Reads.{ReadsWhole}
+use Rattle.base_wire.specs.laws.Whole.{reads_none}
+use Rattle.sheet_wire.specs.QueueBytes.{IsNoQueue, IsQueue}
 use Rattle.open_book.specs.Document.{Document}
 use Rattle.open_book.specs.Machine.{State, applied}
 use Rattle.open_book.specs.Stands.{StandsFor, IsReached, Leaves}
@@ -31,14 +33,14 @@ unread_made error entries Fits session again =
     subst (λ e. LeavesMade (Err e) entries Fits session session) (sym short) (0, refl)
 
 -- bytes of no queue are refused with ParseDiffs
-pub unread_edits : (inside seen : Session) → inside ≡ seen → (bytes : List ℕ) (error : EditError) → (error ≢ NoMemory → (error ≡ ParseDiffs) × IsNoQueue bytes) → Edits (Err error) seen inside (Err ParseDiffs)
-unread_edits inside seen same bytes error refused = record { done = tt; refused = (same, λ other. ap Err (sym (refused other).0)) }
+pub unread_edits : (inside seen : Session) → inside ≡ seen → (error : EditError) → (error ≢ NoMemory → error ≡ ParseDiffs) → Edits (Err error) seen inside (Err ParseDiffs)
+unread_edits inside seen same error refused = record { done = tt; refused = (same, λ other. ap Err (sym (refused other))) }
 
-pub parse_no_queue : (bytes : List ℕ) (error : EditError) → (error ≢ NoMemory → (error ≡ ParseDiffs) × IsNoQueue bytes)
+pub parse_no_queue : (bytes : List ℕ) (error : EditError) → ReadsWhole IsQueue ParseDiffs bytes (Err error)
     → ◌≡◌ {A = Result (Unit {0}) EditError} (Err error) (Err ParseDiffs) → IsNoQueue bytes
-parse_no_queue bytes error refused is =
+parse_no_queue bytes error reads is =
     let same : error ≡ ParseDiffs = cc in
-    (refused (λ short. let never : ParseDiffs ≡ NoMemory = sym same ∙ short in cc)).1
+    reads_none error ParseDiffs reads (λ short. let never : ParseDiffs ≡ NoMemory = sym same ∙ short in cc)
 
 -- what was read is the queue that was encoded
 pub read_leaves : (result : Result (Unit {0}) EditError) (new : Document) (queue entries : List QueueDiffs) (s : State)

@@ -1,4 +1,4 @@
-ghost use Rattle.std.specs.Prelude.{◌≡◌, ◌⊎◌, true, false, None, Some, Ok, Err, not, IfOk, IsTrue, OnOk, OnErr, IsOkUnless};
+ghost use Rattle.std.specs.Prelude.{◌≡◌, true, false, None, Some, Ok, not, IfOk, IsTrue, OnOk, OnErr, IsOkUnless};
 ghost use Rattle.std.specs.Prelude.{string_bytes};
 ghost use Rattle.base_values.specs.Answers.{Edits, Returns, map_ok};
 ghost use Rattle.base_axis.specs.Rectangles.{anchor_place};
@@ -6,10 +6,9 @@ ghost use Rattle.formula_tree.specs.Numbers.{has_canonical_numbers};
 ghost use Rattle.cell_content.specs.declared.Content.TheVariants.{Array};
 ghost use Rattle.cell_content.specs.Fitting.{fits_at};
 ghost use Rattle.cell_content.specs.CanonicalContent.{IsCanonicalContent};
-ghost use Rattle.base_values.specs.declared.EditError.TheVariants.{NoMemory, ParseDiffs};
+ghost use Rattle.base_values.specs.declared.EditError.TheVariants.{NoMemory};
 ghost use Rattle.base_tables.specs.declared.Language.TheVariants.{En};
 ghost use Rattle.sheet_rules.specs.WellFormed.{IsWellFormed};
-ghost use Rattle.sheet_wire.specs.QueueBytes.{FitsQueue, IsNoQueue};
 ghost use Rattle.sheet_actions.specs.Shown.{book_of};
 ghost use Rattle.edit_plans.specs.Edits.{Edit as AnyEdit};
 ghost use Rattle.edit_plans.specs.Inputs.{IsInput};
@@ -18,10 +17,9 @@ ghost use Rattle.user_model.specs.Beginning.{new_state};
 ghost use Rattle.user_model.specs.Reading.{content_text, link_to, rectangle, rectangle_of};
 ghost use Rattle.user_model.specs.Typing.{array_typed, text_typed};
 ghost use Rattle.user_model.specs.Structure.{structure_at};
-ghost use Rattle.open_book.specs.Machine.{State, begun, edit_of, undo_of, redo_of, synced_of, sync_bytes};
-ghost use Rattle.open_book.specs.Sound.{CarriesOn, WhereCarried, WhereEncoded};
-ghost use Rattle.open_book.specs.Stands.{StandsFor, IsReached, IsAnyPlan, IsPlanOf, IsSeenPlan, IsAnySeenPlan, Leaves, Moves, OnStates, Opens, Steps, MovesOrNoMemory};
-ghost use Rattle.open_book.specs.Values.{IsMade, LeavesMade, Makes, is_none_left};
+ghost use Rattle.open_book.specs.Machine.{State, begun, edit_of, undo_of, redo_of};
+ghost use Rattle.open_book.specs.Stands.{StandsFor, IsReached, IsAnyPlan, IsPlanOf, IsSeenPlan, IsAnySeenPlan, Moves, OnStates, Opens, Steps, MovesOrNoMemory};
+ghost use Rattle.open_book.specs.Values.{IsMade, Makes, is_none_left};
 
 mod attributes;
 mod cells;
@@ -33,6 +31,7 @@ mod rules;
 mod settings;
 mod sheets;
 mod views;
+mod wire;
 
 use crate::reading::{
     content_text, find_array_place, find_input_place, find_place, link_to, read_at, read_tree_at,
@@ -42,7 +41,7 @@ use crate::structure::{CellArrayStructure, structure_at};
 use base_axis::{Area, MergedCell};
 use base_shared::Shared;
 use base_tables::{Language, get_language, get_locale, get_zone};
-use base_values::{EditError, Items};
+use base_values::EditError;
 use edit_plans::{plan_array, plan_input, plan_link, plan_merge, plan_unmerge};
 use formula_tree::Node;
 use line_sizes::line_feeds;
@@ -51,7 +50,6 @@ use sheet_actions::Model as PlainModel;
 use sheet_grid::{Content, Link, Workbook};
 use sheet_history::DiffList;
 use sheet_views::View;
-use sheet_wire::{decode_queue, encode_queue};
 use std::alloc::Global;
 use std::fmt;
 use std::marker::Model;
@@ -643,55 +641,5 @@ impl<R: Recalc + Drop> UserModel<R> {
         ensures paused { self.new.paused ≡ self.old.paused }
     {
         self.book.redo(&mut self.results, &mut self.recalc)
-    }
-
-    /// The bytes of all records since the last flush. The queue is empty then. The only error is
-    /// `NoMemory`, and nothing has changed then.
-    ///
-    /// The bytes carry the workbook at the flush before, and any equal to it, to the present one.
-    ///
-    /// ```
-    /// let bytes = model.flush_send_queue()?;
-    /// other.apply_external_diffs(&bytes)?;
-    /// ```
-    pub fn flush_send_queue(&mut self) -> Result<Vec<u8>, EditError>
-        ensures bytes { OnStates self.old.document (λ state. IfOk result (λ bytes. bytes.items ≡ sync_bytes state)) }
-        ensures carries { OnStates self.old.document (λ state. IfOk result (λ bytes. CarriesOn bytes.items state)) }
-        ensures fits { OnStates self.old.document (λ state. OnOk result (FitsQueue state.sent)) }
-        ensures next { Steps result self.old.document self.new.document (λ state. Ok (synced_of state)) }
-        ensures values { self.new.values ≡ self.old.values }
-        ensures err { OnErr result (self.new ≡ self.old) }
-        ensures paused { self.new.paused ≡ self.old.paused }
-    {
-        let bytes = encode_queue(self.book.alloc, self.book.queue.as_slice())?;
-        self.book.queue = Items::empty(self.book.alloc);
-        Ok(bytes)
-    }
-
-    /// Follows the entries that the bytes of another copy's queue encode, one by one. The stacks and
-    /// the queue stay.
-    ///
-    /// `ParseDiffs` exactly where the bytes are no queue's, and nothing has changed then. `DiffRefused`
-    /// with the numbers of the first entry and diff that do not fit; exactly the entries before it
-    /// stand. After `NoMemory` some first entries stand. Bytes of `flush_send_queue` that carry this
-    /// workbook to a later one lead there, and `NoMemory` is then the only error.
-    ///
-    /// ```
-    /// let bytes = first.flush_send_queue()?;
-    /// second.apply_external_diffs(&bytes)?;
-    /// ```
-    pub fn apply_external_diffs(&mut self, bytes: &[u8]) -> Result<(), EditError>
-        ensures next { OnStates self.old.document (λ state. WhereEncoded bytes.now (λ entries. Leaves result self.new.document entries state)) }
-        ensures led { WhereCarried bytes.now self.old.document.book (λ later. OnOk result (self.new.document.book ≡ later)) }
-        ensures carried { WhereCarried bytes.now self.old.document.book (λ later. IsOkUnless result NoMemory) }
-        ensures unencoded { IsNoQueue bytes.now → Edits result self.old self.new (Err ParseDiffs) }
-        ensures parsed { result ≡ Err ParseDiffs → IsNoQueue bytes.now }
-        ensures output { WhereEncoded bytes.now (λ entries. LeavesMade result entries R.Fits self.old self.new) }
-        ensures made_or_same { IsMade R.Fits self.new ⊎ (self.new ≡ self.old) }
-        ensures paused { self.new.paused ≡ self.old.paused }
-    {
-        let queue = decode_queue(self.book.alloc, self.book.default_style.shared(), bytes)?;
-        self.book
-            .receive_all(&mut self.results, &mut self.recalc, queue.as_slice())
     }
 }

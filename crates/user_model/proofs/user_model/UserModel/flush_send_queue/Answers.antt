@@ -12,12 +12,12 @@ encode_queue-requires g c = record { known = subst IsKnownQueue (sym c.as_slice.
 pub returns-clause-carries : goal.returns-clause-carries
 returns-clause-carries g c = λ state stands.
     flushed_carries c.args.self.now.document state c.in_ok-bytes.bytes.items stands
-    ((c.in_ok-bytes.ensures {u = _}).encoded ∙ ap encode_queue c.as_slice.ensures.items ∙ ap (λ (seen : Session). encode_queue seen.document.queue) c.self.view_is)
+    ((c.in_ok-bytes.ensures {u = _}).encoded.encoded ∙ ap encode_queue c.as_slice.ensures.items ∙ ap (λ (seen : Session). encode_queue seen.document.queue) c.self.view_is)
 
 pub returns-clause-fits : goal.returns-clause-fits
 returns-clause-fits g c = λ state stands.
     flushed_fits c.args.self.now.document state stands
-    (subst (λ (seen : Session). FitsQueue seen.document.queue) c.self.view_is (subst FitsQueue c.as_slice.ensures.items (c.in_ok-bytes.ensures {u = _}).fits))
+    (subst (λ (seen : Session). FitsQueue seen.document.queue) c.self.view_is (subst FitsQueue c.as_slice.ensures.items (c.in_ok-bytes.ensures {u = _}).encoded.fits))
 
 pub invariant_of-self : goal.invariant_of-self
 invariant_of-self g c = let is = c.self.invariant in (synced_of is.0, synced_document (document_in c.self.inside.book) _ is.0 is.1 (search rules))

@@ -6,7 +6,7 @@ ghost use Rattle.base_values.specs.declared.EditError.TheVariants.{ParseDiffs, P
 ghost use Rattle.base_wire.specs.Reads.{HasNoFront, ReadsWhole};
 ghost use Rattle.base_wire.specs.laws.Reading.{◌⊗◌, list_at, rest_after};
 ghost use Rattle.grid_wire.specs.BookBytes.{book_magic, IsBook};
-ghost use Rattle.grid_wire.specs.laws.BookLaws.{book_at, book_made, book_of, names_at, settings_at};
+ghost use Rattle.grid_wire.specs.laws.BookLaws.{book_at, book_made, book_of, names_at, settings_at, workbook_refusal};
 ghost use Rattle.grid_wire.specs.laws.Reading.{sheet_at};
 
 use crate::names_list::NameListPart;
@@ -107,6 +107,16 @@ fn read_workbook(alloc: Global, bytes: &[u8]) -> Result<Workbook, EditError>
     read_book(alloc, plain.shared(), bytes)
 }
 
+/// What is no workbook's is refused with `ParseWorkbook`.
+fn workbook_refusal(error: EditError) -> EditError
+    ensures { result ≡ workbook_refusal error }
+{
+    match error {
+        EditError::NoMemory => EditError::NoMemory,
+        _ => EditError::ParseWorkbook,
+    }
+}
+
 /// The workbook that all of these bytes encode (docs/FORMATS.md, "Bytes"), whether it meets the rules or
 /// not. The keys of its sheets' maps lie inside the sheet.
 ///
@@ -119,7 +129,6 @@ pub fn decode_workbook(alloc: Global, bytes: &[u8]) -> Result<Workbook, EditErro
 {
     match read_workbook(alloc, bytes) {
         Ok(workbook) => Ok(workbook),
-        Err(EditError::NoMemory) => Err(EditError::NoMemory),
-        Err(_) => Err(EditError::ParseWorkbook),
+        Err(error) => Err(workbook_refusal(error)),
     }
 }

@@ -12,7 +12,7 @@ use base_wire::{Part, put_items, read};
 use format_rules::{ConditionalFormatting, RuleList};
 use std::alloc::{AllocError, Global};
 
-#[tactic(auto, unfolding(crate::specs::laws::RuleReading::formatting_at))]
+#[tactic(auto, unfolding(crate::specs::laws::RuleReading::formatting_at, crate::specs::laws::CellReading::merges_at))]
 fn formatting_at<'a>(
     alloc: Global,
     plain: &Shared<Style>,

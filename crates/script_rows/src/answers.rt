@@ -12,6 +12,11 @@ fn push_refused_diff(
     Ok(push_line(out, text.as_bytes())?)
 }
 
+fn push_broken_rule(alloc: Global, out: &mut Vec<u8>, rule: u8) -> Result<(), EditError> {
+    let text = format!(in alloc; "error IllFormed {rule}")?;
+    Ok(push_line(out, text.as_bytes())?)
+}
+
 /// Writes a refusal, with its numbers if it has some. Being out of memory is none.
 pub(crate) fn push_error(
     alloc: Global,
@@ -21,6 +26,7 @@ pub(crate) fn push_error(
     match error {
         EditError::NoMemory => Err(EditError::NoMemory),
         EditError::DiffRefused { entry, diff } => push_refused_diff(alloc, out, entry, diff),
+        EditError::IllFormed { rule } => push_broken_rule(alloc, out, rule),
         other => {
             out.extend_from_slice(b"error ")?;
             Ok(push_line(out, other.name().as_bytes())?)

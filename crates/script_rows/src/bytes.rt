@@ -107,13 +107,8 @@ fn push_plain(
     }
 }
 
-fn push_queue(
-    alloc: Global,
-    out: &mut Vec<u8>,
-    plain: &Shared<Style>,
-    bytes: &[u8],
-) -> Result<(), EditError> {
-    match decode_queue(alloc, plain, bytes) {
+fn push_queue(alloc: Global, out: &mut Vec<u8>, bytes: &[u8]) -> Result<(), EditError> {
+    match decode_queue(alloc, bytes) {
         Ok(queue) => push_number(alloc, out, queue.len()),
         Err(error) => push_error(alloc, out, error),
     }
@@ -131,7 +126,7 @@ fn answer_with(
     match question {
         "read" => push_named(alloc, out, &plain, Question::Again, part, bytes),
         "cut" => push_named(alloc, out, &plain, Question::Front, part, bytes),
-        _ => push_queue(alloc, out, &plain, bytes),
+        _ => push_queue(alloc, out, bytes),
     }
 }
 

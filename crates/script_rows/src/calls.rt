@@ -2,6 +2,7 @@ use crate::answers::push_error;
 use crate::bytes::answer_bytes;
 use crate::edits::answer_edit;
 use crate::questions::ask;
+use crate::saved::{answer_opened, push_saved};
 use base_values::EditError;
 use script_dump::push_line;
 use std::alloc::Global;
@@ -19,6 +20,8 @@ fn answer_question(
 ) -> Result<(), EditError> {
     match call {
         "read" | "cut" | "queue" => answer_bytes(alloc, out, call, text),
+        "to_bytes" => push_saved(out, model),
+        "from_bytes" => answer_opened(alloc, out, text),
         _ => match ask(alloc, model, call, text) {
             Ok(Some(told)) => Ok(push_line(out, told.as_bytes())?),
             Ok(None) => Ok(push_line(out, b"no call")?),

@@ -11,6 +11,7 @@ mod edits;
 mod hex;
 mod questions;
 mod rows;
+mod saved;
 mod verdict;
 mod words;
 

@@ -11,7 +11,11 @@ ghost use Rattle.sheet_wire.specs.QueueBytes.{direction_code, magic, IsQueue};
 
 use crate::attributes::attr_diff_at;
 use crate::codes::{axis_of, direction_of};
-use crate::decode_sheets::{color_diff_at, copy_diff_at, deletion_diff_at, frozen_columns_diff_at, frozen_rows_diff_at, grid_diff_at, move_diff_at, name_diff_at, new_diff_at, rename_diff_at, sheet_change_at, state_diff_at, };
+use crate::decode_sheets::{
+    color_diff_at, copy_diff_at, deletion_diff_at, frozen_columns_diff_at, frozen_rows_diff_at,
+    grid_diff_at, move_diff_at, name_diff_at, new_diff_at, rename_diff_at, sheet_change_at,
+    state_diff_at,
+};
 use crate::parts::{DiffPart, EntryPart};
 use crate::rule_changes::rule_diff_at;
 use crate::settings::{locale_diff_at, theme_diff_at, title_diff_at, zone_diff_at};
@@ -226,13 +230,21 @@ pub fn decode_queue_sharing(
     queue_at(alloc, plain, bytes)
 }
 
+/// The same, with a plain style that is made after the test.
+fn queue_of(alloc: Global, bytes: &[u8]) -> Result<Items<QueueDiffs>, EditError>
+    ensures read { Answers result (queue_of bytes.now) }
+    ensures early { HasNoFront magic bytes.now → result ≡ Err ParseDiffs }
+{
+    counted_after(b"ICQ1", bytes)?;
+    let plain = DefaultStyle::new(alloc)?;
+    read_queue(alloc, plain.shared(), bytes)
+}
+
 /// The queue of diffs that all of these bytes encode (docs/FORMATS.md, "Bytes"). The errors are those of
 /// `decode_queue_sharing`, which is for a caller that has made the default style.
 pub fn decode_queue(alloc: Global, bytes: &[u8]) -> Result<Items<QueueDiffs>, EditError>
     ensures read { ReadsWhole IsQueue ParseDiffs bytes.now result }
     ensures early { HasNoFront magic bytes.now → result ≡ Err ParseDiffs }
 {
-    counted_after(b"ICQ1", bytes)?;
-    let plain = DefaultStyle::new(alloc)?;
-    decode_queue_sharing(alloc, plain.shared(), bytes)
+    queue_of(alloc, bytes)
 }

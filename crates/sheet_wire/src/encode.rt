@@ -9,7 +9,10 @@ ghost use Rattle.sheet_wire.specs.QueueBytes.{encode_diff, encode_entry, FitsDif
 
 use crate::attributes::{line_tag, put_attr_change};
 use crate::codes::{axis_code, direction_code};
-use crate::encode_sheets::{put_copy, put_deletion, put_field, put_move, put_name_change, put_new, put_rename, put_sheet_change, };
+use crate::encode_sheets::{
+    put_copy, put_deletion, put_field, put_move, put_name_change, put_new, put_rename,
+    put_sheet_change,
+};
 use crate::parts::{DiffPart, EntryPart};
 use crate::rule_changes::put_rule;
 use crate::settings::put_setting;

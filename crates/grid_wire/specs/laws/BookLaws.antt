@@ -1,21 +1,21 @@
 -- Reading workbooks, and the laws of their bytes.
-use Rattle.std.proofs.Common.{◌≡◌, ℕ, List, Result, Ok, Err, refl, ap}
+use Rattle.std.proofs.Common.{◌≡◌, ℕ, List, Result, Ok, Err, refl, ap, sym, ◌∙◌}
 use Rattle.base_values.specs.Answers.{Answers}
 use Rattle.base_values.specs.declared.EditError.{EditError}
-use Rattle.base_values.specs.declared.EditError.TheVariants.{ParseDiffs}
+use Rattle.base_values.specs.declared.EditError.TheVariants.{NoMemory, ParseDiffs, ParseWorkbook}
 use Rattle.base_tables.specs.declared.Locale.{Locale}
 use Rattle.base_tables.specs.declared.Zone.{Zone}
 use Rattle.base_styles.specs.declared.Theme.{Theme}
 use Rattle.defined_names.specs.declared.DefinedName.{DefinedName}
 use Rattle.sheet_grid.specs.Book.{Book}
 use Rattle.sheet_grid.specs.Sheet.{Sheet}
-use Rattle.base_wire.specs.Reads.{HasNoFront, ReadsWhole}
+use Rattle.base_wire.specs.Reads.{HasNoFront, Read, ReadsWhole}
 use Rattle.base_wire.specs.laws.Encoded.{IsBytes}
 use Rattle.base_wire.specs.laws.Format.{Format, list_format}
 use Rattle.base_wire.specs.laws.Formats.{after_format, both_format, made_format}
 use Rattle.base_wire.specs.laws.Parts.{text_format}
 use Rattle.base_wire.specs.laws.Reading.{Reader, ◌>>=◌, ◌⊗◌, after, count_at, counted_after, list_at, map_at, text_at, whole}
-use Rattle.base_wire.specs.laws.Whole.{no_front, reads_whole}
+use Rattle.base_wire.specs.laws.Whole.{no_front, reads_otherwise, reads_whole}
 use Rattle.grid_wire.specs.BookBytes.{book_magic, encode_book, FitsBook, IsBook}
 use Rattle.grid_wire.specs.NameBytes.{encode_names, FitsNames}
 use Rattle.grid_wire.specs.laws.FrontLaws.{AsksCount, front_refused, text_asks}
@@ -69,11 +69,17 @@ book_reads bytes result small h = reads_whole book_format bytes result small h
 
 -- ---- the front
 
-then_refused : {A B : Type 0} (next : Reader B) (e : EditError) (r : Result (A × List ℕ) EditError) → r ≡ Err e → (r >>= λ x. next x.1 >>= λ y. Ok ((x.0, y.0), y.1)) ≡ Err e
+abbrev paired : {A B : Type 0} → A × List ℕ → B × List ℕ → Read (A × B)
+paired x y = Ok ((x.0, y.0), y.1)
+
+then_refused : {A B : Type 0} (next : Reader B) (e : EditError) (r : Read A) → r ≡ Err e → (r >>= λ x. next x.1 >>= λ y. paired x y) ≡ Err e
 then_refused next e (Ok x) h = absurd cc
 then_refused next e (Err d) h = let p : d ≡ e = cc in ap Err p
 
-made_refused : {A B : Type 0} (f : A → B) (e : EditError) (r : Result (A × List ℕ) EditError) → r ≡ Err e → (r >>= λ x. Ok (f x.0, x.1)) ≡ Err e
+abbrev made : {A B : Type 0} → (A → B) → A × List ℕ → Read B
+made f x = Ok (f x.0, x.1)
+
+made_refused : {A B : Type 0} (f : A → B) (e : EditError) (r : Read A) → r ≡ Err e → (r >>= λ x. made f x) ≡ Err e
 made_refused f e (Ok x) h = absurd cc
 made_refused f e (Err d) h = let p : d ≡ e = cc in ap Err p
 
@@ -90,3 +96,24 @@ book_refused bytes e refused = front_refused book_at book_asks book_magic bytes 
 -- they are refused at once
 pub no_book_front : (bytes : List ℕ) → HasNoFront book_magic bytes → counted_after book_magic bytes ≡ Err ParseDiffs
 no_book_front bytes none = no_front book_magic bytes refl none
+
+-- and with nothing but the refusal
+pub front_error : (bytes : List ℕ) (e : EditError) → counted_after book_magic bytes ≡ Err e → HasNoFront book_magic bytes → e ≡ ParseDiffs
+front_error bytes e refused none = let both : ◌≡◌ {A = Result (List ℕ) EditError} (Err e) (Err ParseDiffs) = sym refused ∙ no_book_front bytes none in cc
+
+pub front_never : (bytes rest : List ℕ) → counted_after book_magic bytes ≡ Ok rest → HasNoFront book_magic bytes → ⊥
+front_never bytes rest read none = let both : ◌≡◌ {A = Result (List ℕ) EditError} (Ok rest) (Err ParseDiffs) = sym read ∙ no_book_front bytes none in absurd cc
+
+-- ---- the word for the refusal
+
+-- what is no workbook's is refused with this word
+abbrev pub workbook_refusal : EditError → EditError
+workbook_refusal NoMemory = NoMemory
+workbook_refusal error = ParseWorkbook
+
+pub read_says : (bytes : List ℕ) (book : Book) → ReadsWhole IsBook ParseDiffs bytes (Ok book) → ReadsWhole IsBook ParseWorkbook bytes (Ok book)
+read_says bytes book reads = record { encoded = reads.encoded; again = reads.again; refused = tt }
+
+pub refusal_says : (bytes : List ℕ) (e : EditError) → ReadsWhole IsBook ParseDiffs bytes (Err e) → ReadsWhole IsBook ParseWorkbook bytes (Err (workbook_refusal e))
+refusal_says bytes NoMemory reads = record { encoded = tt; again = reads.again; refused = λ other. absurd (other refl) }
+refusal_says bytes e reads = reads_otherwise e ParseWorkbook reads (λ is. cc)

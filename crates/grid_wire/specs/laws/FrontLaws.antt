@@ -5,13 +5,18 @@ use Rattle.std.specs.Int.{w64}
 use Rattle.std.specs.Str.{is_utf8}
 use Rattle.base_values.specs.declared.EditError.{EditError}
 use Rattle.base_values.specs.declared.EditError.TheVariants.{ParseDiffs}
+use Rattle.base_wire.specs.Reads.{Read}
 use Rattle.base_wire.specs.laws.Reading.{Reader, ◌>>=◌, after, bytes_at, check_at, count_at, counted_after, list_at, many_at, number_at, rest_after, text_at, whole}
 
 abbrev given : {A : Type 0} → A → Result A EditError
 given x = Ok x
 
-same_error : {A B : Type 0} (d e : EditError) → Err {A = A} d ≡ Err e → Err {A = B} d ≡ Err e
+same_error : {A B : Type 0} (d e : EditError) → ◌≡◌ {A = Result A EditError} (Err d) (Err e) → ◌≡◌ {A = Result B EditError} (Err d) (Err e)
 same_error d e h = let p : d ≡ e = cc in ap Err p
+
+-- so many bytes, and those after them
+abbrev cut : ℕ × List ℕ → Read (List ℕ)
+cut n = Ok (take n.0 n.1, drop n.0 n.1)
 
 -- a reader that refuses bytes that begin with no count of what follows
 abbrev pub AsksCount : {A : Type 0} → Reader A → Type 0
@@ -19,7 +24,7 @@ AsksCount read = (bytes : List ℕ) (e : EditError) → count_at bytes ≡ Err e
 
 -- a text whose length is greater than the number of the bytes after it is refused as such a count is
 few : (e : EditError) (n : ℕ × List ℕ) (b : Bool) → (if b then Err ParseDiffs else given n) ≡ Err e
-    → ((if b then Err ParseDiffs else given (take n.0 n.1, drop n.0 n.1)) >>= λ x. if is_utf8 x.0 then Ok x else Err ParseDiffs) ≡ Err e
+    → ((if b then Err ParseDiffs else cut n) >>= λ x. if is_utf8 x.0 then Ok x else Err ParseDiffs) ≡ Err e
 few e n true h = same_error ParseDiffs e h
 few e n false h = absurd cc
 

@@ -1,5 +1,5 @@
 -- The laws of the bytes of queues.
-use Rattle.std.proofs.Common.{◌≡◌, ℕ, List, Result, Err, refl}
+use Rattle.std.proofs.Common.{◌≡◌, ℕ, List, Result, Err, Ok, refl, sym, ◌∙◌}
 use Rattle.base_values.specs.Answers.{Answers}
 use Rattle.base_values.specs.declared.EditError.{EditError}
 use Rattle.base_values.specs.declared.EditError.TheVariants.{ParseDiffs}
@@ -26,3 +26,10 @@ queue_refused bytes e refused = front_refused (list_at entry_at) (list_asks entr
 -- they are refused at once
 pub no_queue_front : (bytes : List ℕ) → HasNoFront magic bytes → counted_after magic bytes ≡ Err ParseDiffs
 no_queue_front bytes none = no_front magic bytes refl none
+
+-- and with nothing but the refusal
+pub front_error : (bytes : List ℕ) (e : EditError) → counted_after magic bytes ≡ Err e → HasNoFront magic bytes → e ≡ ParseDiffs
+front_error bytes e refused none = let both : ◌≡◌ {A = Result (List ℕ) EditError} (Err e) (Err ParseDiffs) = sym refused ∙ no_queue_front bytes none in cc
+
+pub front_never : (bytes rest : List ℕ) → counted_after magic bytes ≡ Ok rest → HasNoFront magic bytes → ⊥
+front_never bytes rest read none = let both : ◌≡◌ {A = Result (List ℕ) EditError} (Ok rest) (Err ParseDiffs) = sym read ∙ no_queue_front bytes none in absurd cc

@@ -1,9 +1,11 @@
 //! Fills a household budget as a program fills a template: rows of names and amounts with a total, one
-//! more row in the middle, that row taken back, and all of it sent to a second copy.
+//! more row in the middle, that row taken back, and all of it sent to a second copy. Then it saves the
+//! copy in a file and opens it again.
 #![tactic(auto)]
 
 use anyhow::Result;
 use std::alloc::Global;
+use std::fs;
 use user_model::{ClearAll, EditError, UserModel};
 
 type Budget = UserModel<ClearAll>;
@@ -76,15 +78,40 @@ fn tell(text: &mut String, first: &mut Budget, second: &mut Budget) -> Result<()
     show(text, "The second copy:\n", second, 5)
 }
 
-fn report(alloc: Global) -> Result<String, EditError> {
+/// The second copy, and what there is to tell of both.
+fn report(alloc: Global) -> Result<(String, Budget), EditError> {
     let mut text = String::new(alloc);
     let mut first = new_budget(alloc)?;
     let mut second = new_budget(alloc)?;
     tell(&mut text, &mut first, &mut second)?;
-    Ok(text)
+    Ok((text, second))
+}
+
+/// Writes the workbook to a file.
+fn save(rt: &HostRuntime, model: &Budget, path: &str) -> Result<()> {
+    let bytes = model.to_bytes()?;
+    fs::write(rt, path, bytes)?;
+    Ok(())
+}
+
+/// The workbook of a file, with nothing to undo.
+fn open(rt: &HostRuntime, path: &str) -> Result<Budget> {
+    let bytes = fs::read(rt, path)?;
+    Ok(UserModel::from_bytes(rt.alloc(), &bytes, "en", ClearAll)?)
+}
+
+/// Saves a workbook, opens it again, and shows what was opened. The file goes.
+fn tell_saved(rt: &HostRuntime, text: &mut String, model: &Budget) -> Result<()> {
+    save(rt, model, "budget.icw")?;
+    let opened = open(rt, "budget.icw")?;
+    show(text, "Saved and opened again:\n", &opened, 5)?;
+    fs::remove_file(rt, "budget.icw")?;
+    Ok(())
 }
 
 fn main(rt: HostRuntime) -> Result<()> {
-    print!(rt; "{}", report(rt.alloc())?.as_str())?;
+    let (mut text, copy) = report(rt.alloc())?;
+    tell_saved(&rt, &mut text, &copy)?;
+    print!(rt; "{}", text.as_str())?;
     Ok(())
 }

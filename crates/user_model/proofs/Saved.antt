@@ -1,6 +1,7 @@
 -- A model that is opened from bytes.
-use Rattle.std.proofs.Common.{◌≡◌, ◌≢◌, ℕ, List, Result, Ok, Err, ap, sym, subst, ◌∙◌}
-use Rattle.base_values.specs.Answers.{Answers, map_ok, ok_or}
+use Rattle.std.proofs.Common.{◌≡◌, ℕ, List, Result, Ok, Err, refl, ap, sym, subst, ◌∙◌}
+use Rattle.std.specs.Prelude.{IfOk, IsOkUnless}
+use Rattle.base_values.specs.Answers.{ok_or}
 use Rattle.base_values.specs.declared.EditError.{EditError}
 use Rattle.base_values.specs.declared.EditError.TheVariants.{LanguageName, NoMemory, ParseWorkbook}
 use Rattle.base_tables.specs.declared.Language.{Language}
@@ -8,8 +9,9 @@ use Rattle.base_tables.specs.Language.{language_of_name}
 use Rattle.base_wire.specs.Reads.{ReadsWhole}
 use Rattle.grid_wire.specs.BookBytes.{IsBook}
 use Rattle.sheet_grid.specs.Book.{Book}
+use Rattle.sheet_actions.specs.Checked.{checked}
 use Rattle.open_book.specs.Machine.{State, begun}
-use Rattle.open_book.specs.Stands.{OpensOrNoMemory}
+use Rattle.open_book.specs.Stands.{OpensOrNoMemory, StandsFor}
 use Rattle.open_book.specs.Values.{Session}
 use Rattle.user_model.specs.Beginning.{book_state}
 
@@ -18,8 +20,38 @@ pub one_book : (bytes : List ℕ) (read book : Book) → ReadsWhole IsBook Parse
 one_book bytes read book reads is = let same : ◌≡◌ {A = Result Book EditError} (Ok book) (Ok read) = (reads.again book is).done in cc
 
 -- where reading is refused, no workbook has these bytes, or memory is short
-pub unopened : (bytes : List ℕ) (e : EditError) (book : Book) (expected : Result State EditError) → ReadsWhole IsBook ParseWorkbook bytes (Err e) → IsBook bytes book → OpensOrNoMemory (Err e) expected
-unopened bytes e book expected reads is = record {
+pub unread_opens : (bytes : List ℕ) (e : EditError) (book : Book) (expected : Result State EditError) → ReadsWhole IsBook ParseWorkbook bytes (Err e) → IsBook bytes book → OpensOrNoMemory (Err e) expected
+unread_opens bytes e book expected reads is = record {
   done = tt;
   refused = λ other. let never : ◌≡◌ {A = Result Book EditError} (Ok book) (Err e) = (reads.again book is).refused other in absurd cc;
 }
+
+module _ (name : List ℕ) (l : Language) (known : ok_or LanguageName (language_of_name name) ≡ Ok l) where
+  found_state : (found : Result Book EditError) (book : Book) → found ≡ Ok book → book_state name found ≡ Ok (begun l book)
+  found_state found book is = rw (known, is) refl
+
+  lost_state : (found : Result Book EditError) (e : EditError) → found ≡ Err e → book_state name found ≡ Err e
+  lost_state found e is = rw (known, is) refl
+
+  -- other bytes are refused as no workbook's
+  pub unread_none : (bytes : List ℕ) (e : EditError) → ReadsWhole IsBook ParseWorkbook bytes (Err e) → OpensOrNoMemory (Err e) (book_state name (Err ParseWorkbook))
+  unread_none bytes e reads = record { done = tt; refused = λ other. lost_state (Err ParseWorkbook) ParseWorkbook refl ∙ ap Err (sym (reads.refused other)) }
+
+  -- a workbook that breaks a rule is refused with the rule
+  pub broken_opens : (bytes : List ℕ) (read : Book) (e : EditError) → ReadsWhole IsBook ParseWorkbook bytes (Ok read) → checked read ≡ Err e
+      → (book : Book) → IsBook bytes book → OpensOrNoMemory (Err e) (book_state name (checked book))
+  broken_opens bytes read e reads broken = λ book is.
+      subst (λ (b : Book). OpensOrNoMemory (Err e) (book_state name (checked b))) (one_book bytes read book reads is)
+      (record { done = tt; refused = λ other. lost_state (checked read) e broken })
+
+  opened_by : (result : Result Session EditError) (state : State) → IfOk result (λ s. StandsFor s.document state) → IsOkUnless result NoMemory → OpensOrNoMemory result (Ok state)
+  opened_by (Ok s) state stands only = record { done = stands; refused = tt }
+  opened_by (Err e) state stands only = record { done = tt; refused = λ other. absurd (other only) }
+
+  -- any other one is opened
+  pub read_opens : (bytes : List ℕ) (read book : Book) (result : Result Session EditError) → ReadsWhole IsBook ParseWorkbook bytes (Ok read) → checked read ≡ Ok book
+      → IfOk result (λ s. StandsFor s.document (begun l book)) → IsOkUnless result NoMemory
+      → (other : Book) → IsBook bytes other → OpensOrNoMemory result (book_state name (checked other))
+  read_opens bytes read book result reads rules stands only = λ other is.
+      subst (λ (b : Book). OpensOrNoMemory result (book_state name (checked b))) (one_book bytes read other reads is)
+      (subst (λ (expected : Result State EditError). OpensOrNoMemory result expected) (sym (found_state (checked read) book rules)) (opened_by result (begun l book) stands only))

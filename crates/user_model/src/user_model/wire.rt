@@ -28,7 +28,7 @@ impl<R: Recalc + Drop> UserModel<R> {
     ///
     /// `LanguageName` where there is no language of that name, else `ParseWorkbook` where the bytes are
     /// no workbook's, else `IllFormed` with the first rule that the workbook breaks. `NoMemory` may come
-    /// in place of the latter two.
+    /// in place of each.
     ///
     /// ```
     /// let bytes = model.to_bytes()?;

@@ -25,12 +25,12 @@ abbrev pub last_place : MergedCell → Position
 last_place r = record { row = last_row r; column = last_column r }
 
 -- one line or more, none of them before the first line of an axis or after its last
-abbrev pub stands_inside : ℤ → ℤ → ℤ → Bool
-stands_inside last first count = int_le (pos 1) first && (int_le (pos 1) count && int_le (last_of first count) last)
+abbrev pub are_lines_inside : ℤ → ℤ → ℤ → Bool
+are_lines_inside last first count = int_le (pos 1) first && (int_le (pos 1) count && int_le (last_of first count) last)
 
 -- it has a place, and all its places are of the sheet
 unfoldable pub is_inside : MergedCell → Bool
-is_inside r = stands_inside (pos 1048576) r.row r.height && stands_inside (pos 16384) r.column r.width
+is_inside r = are_lines_inside (pos 1048576) r.row r.height && are_lines_inside (pos 16384) r.column r.width
 
 -- the same, part by part
 pub record IsInside (r : MergedCell) : Type 0 where
@@ -64,8 +64,8 @@ abbrev pub is_part : ℤ → ℤ → ℤ → ℤ → Bool
 is_part first last first_other last_other = int_le first_other first && int_le last last_other
 
 -- the rows of one are rows of another, and so are its columns
-unfoldable pub lies_within : MergedCell → MergedCell → Bool
-lies_within r s = is_part r.row (last_row r) s.row (last_row s) && is_part r.column (last_column r) s.column (last_column s)
+unfoldable pub is_inside_of : MergedCell → MergedCell → Bool
+is_inside_of r s = is_part r.row (last_row r) s.row (last_row s) && is_part r.column (last_column r) s.column (last_column s)
 
 -- ---- along an axis
 

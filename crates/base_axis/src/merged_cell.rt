@@ -1,6 +1,6 @@
 ghost use Rattle.std.specs.Prelude.{◌≡◌, pos};
 ghost use Rattle.base_values.specs.Places.{IsLine};
-ghost use Rattle.base_axis.specs.Rectangles.{IsInside, anchor_place, last_of, last_row, last_column, stands_inside, is_inside, is_between, holds, has_many, overlap, meets, is_part, lies_within, first_line, line_count, last_line, across, line_span, with_lines};
+ghost use Rattle.base_axis.specs.Rectangles.{IsInside, anchor_place, last_of, last_row, last_column, are_lines_inside, is_inside, is_between, holds, has_many, overlap, meets, is_part, is_inside_of, first_line, line_count, last_line, across, line_span, with_lines};
 
 use crate::axis::Axis;
 use base_values::{Exact, LAST_COLUMN, LAST_ROW, Position};
@@ -22,8 +22,8 @@ pub fn last_of(first: i32, count: i32) -> i64
     i64::from(first) + (i64::from(count) - 1)
 }
 
-fn stands_inside(last: i32, first: i32, count: i32) -> bool
-    ensures { result ≡ stands_inside last first count }
+fn are_lines_inside(last: i32, first: i32, count: i32) -> bool
+    ensures { result ≡ are_lines_inside last first count }
 {
     1 <= first && 1 <= count && last_of(first, count) <= i64::from(last)
 }
@@ -89,8 +89,8 @@ impl MergedCell {
     pub fn is_inside(self) -> bool
         ensures { result ≡ is_inside self }
     {
-        stands_inside(LAST_ROW, self.row, self.height)
-            && stands_inside(LAST_COLUMN, self.column, self.width)
+        are_lines_inside(LAST_ROW, self.row, self.height)
+            && are_lines_inside(LAST_COLUMN, self.column, self.width)
     }
 
     /// Whether a place is one of its places.
@@ -122,7 +122,7 @@ impl MergedCell {
         overlap(self.column, self.width, other.column, other.width)
     }
 
-    /// Whether two rectangles share a row and a column. Of two that lie inside the sheet it says
+    /// Whether two rectangles share a row and a column. Of two that are inside the sheet it says
     /// whether they share a place.
     #[tactic(auto, unfolding(crate::specs::Rectangles::meets))]
     pub fn meets(self, other: MergedCell) -> bool
@@ -144,9 +144,9 @@ impl MergedCell {
     }
 
     /// Whether each of its rows and columns is one of another's.
-    #[tactic(auto, unfolding(crate::specs::Rectangles::lies_within))]
-    pub fn lies_within(self, other: MergedCell) -> bool
-        ensures { result ≡ lies_within self other }
+    #[tactic(auto, unfolding(crate::specs::Rectangles::is_inside_of))]
+    pub fn is_inside_of(self, other: MergedCell) -> bool
+        ensures { result ≡ is_inside_of self other }
     {
         self.has_rows_of(other) && self.has_columns_of(other)
     }
@@ -179,7 +179,7 @@ impl MergedCell {
         A::count_of(self.width, self.height)
     }
 
-    /// The lines of an axis on which it begins and ends, where it lies inside the sheet.
+    /// The lines of an axis on which it begins and ends, where it is inside the sheet.
     pub fn lines<A: Axis>(self) -> (i32, i32)
         requires { IsInside self }
         ensures first { result.0 ≡ first_line A.along self }

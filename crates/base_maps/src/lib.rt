@@ -1,5 +1,5 @@
 //! Maps with plain keys: positions, numbers of lines and places of a workbook, whether or not they
-//! lie inside a sheet, and indexes of lists.
+//! are inside a sheet, and indexes of lists.
 //!
 //! The maps of several sheets may be put into one, whose keys hold the id of a sheet (`put_under`).
 #![tactic(auto)]

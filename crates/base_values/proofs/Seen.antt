@@ -124,7 +124,7 @@ module _ {K X M : Type 0} {S R : K → K → Ordering} {D : K → K → Bool}
     pub inside-model : All (λ e. P e.0) es → IsInside R P n
     inside-model all = inside_of_entries R total_seen exact_seen P es n all gathered_seen
 
--- the keys lie inside after a change
+-- the keys are inside after a change
 module _ {K X : Type 0} {S R : K → K → Ordering} (same : S ≡ R) (P : K → Type 0) (n o : BTreeMap K X) (inside : IsInside R P n) (ordered : IsOrdered S o) where
   pub inside-put : (key : K) (value : X) → P key → o.entries ≡ insert_entry S n.entries key value → IsInside R P o
   inside-put key value fits put = record {

@@ -31,13 +31,13 @@ use Rattle.book_names.specs.Renaming.{book_renamed, book_back}
 unfoldable pub stand_on_places : FinMap sheet_place_cmp Node → Bool
 stand_on_places formulas = list_all (λ (entry : SheetPlace × Node). is_place entry.0.place) (entries formulas)
 
--- each kept conditional rule has a part, and its parts lie inside the sheet
+-- each kept conditional rule has a part, and its parts are inside the sheet
 unfoldable pub stand_on_parts : FinMap sheet_index_cmp ConditionalFormatting → Bool
 stand_on_parts formattings = list_all (λ (entry : SheetIndex × ConditionalFormatting). has_parts entry.1) (entries formattings)
 
--- what is kept lies inside its sheets
-abbrev pub lie_in_sheets : KeptTrees → Bool
-lie_in_sheets kept = stand_on_places kept.formulas && stand_on_parts kept.formattings
+-- what is kept is inside its sheets
+abbrev pub are_in_sheets : KeptTrees → Bool
+are_in_sheets kept = stand_on_places kept.formulas && stand_on_parts kept.formattings
 
 -- whether a cell is there, and its content is a formula
 abbrev pub is_formula : Option Cell → Bool
@@ -83,7 +83,7 @@ may_stand kept book = formulas_stand own_place kept.formulas book && names_stand
 
 -- whether the sheet of an id can be renamed
 abbrev pub goes_forward : ℕ → KeptTrees → Book → Bool
-goes_forward id kept book = is_some (sheet_of book id) && lie_in_sheets kept
+goes_forward id kept book = is_some (sheet_of book id) && are_in_sheets kept
 
 -- whether it can get its old name back
 abbrev pub goes_back : ℕ → KeptTrees → Book → Bool

@@ -20,7 +20,7 @@ use Rattle.defined_names.specs.declared.DefinedName.{DefinedName}
 use Rattle.format_rules.specs.declared.ConditionalFormatting.{ConditionalFormatting}
 use Rattle.format_rules.specs.contracts.formatting.ConditionalFormattingPartialEq.TheImpl as equality
 use Rattle.format_rules.specs.Canonical.{IsCanonicalFormatting}
-use Rattle.format_rules.specs.Fitting.{StandsInside}
+use Rattle.format_rules.specs.Fitting.{RuleInside}
 use Rattle.format_rules.specs.RuleTrees.{trees_changed}
 use Rattle.base_maps.specs.declared.SheetIndex.{SheetIndex}
 use Rattle.base_maps.specs.SheetIndexes.{sheet_index_cmp}
@@ -132,7 +132,7 @@ pub record AreCanonicalTrees (kept : KeptTrees) : Type 0 where
 -- the kept trees of cells may stand where they stood, and the kept conditional rules inside their sheets
 pub record ArePlacedTrees (kept : KeptTrees) : Type 0 where
   pub formulas : (key : SheetPlace) (tree : Node) → get kept.formulas key ≡ Some tree → is_placed key.place tree ≡ true
-  pub formattings : (key : SheetIndex) (formatting : ConditionalFormatting) → get kept.formattings key ≡ Some formatting → StandsInside formatting
+  pub formattings : (key : SheetIndex) (formatting : ConditionalFormatting) → get kept.formattings key ≡ Some formatting → RuleInside formatting
 
 -- ---- the workbook taken back
 

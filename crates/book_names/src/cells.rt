@@ -187,7 +187,7 @@ pub(crate) fn changed_cells<C: CellChange>(
     ensures cells { IfOk result (λ output. output ≡ carried_map Some Some (λ _ place cell. C.change change.now place cell) cells.now) }
     ensures only { IsOkUnless result NoMemory }
 {
-    // For the proof: what lies inside.
+    // For the proof: what is inside.
     places_inside(cells);
     let mut output = Items::empty(alloc);
     for (place, cell) in cells.iter() {

@@ -4,7 +4,7 @@ ghost use Rattle.std.specs.Prelude.{◌≡◌, ◌<◌, ◌^◌, IsTrue, OnOk, n
 ghost use Rattle.std.specs.Option.{option_copied};
 ghost use Rattle.base_values.specs.Answers.{Edits};
 ghost use Rattle.sheet_lines.specs.Sheets.{IsPlacedBook};
-ghost use Rattle.book_names.specs.RenameDiffs.{stand_on_places, stand_on_parts, lie_in_sheets, names_stand};
+ghost use Rattle.book_names.specs.RenameDiffs.{stand_on_places, stand_on_parts, are_in_sheets, names_stand};
 ghost use Rattle.book_names.specs.RenameDiffs.{formatting_stands, formattings_stand, may_stand, goes_forward, goes_back};
 ghost use Rattle.book_names.specs.RenameDiffs.{rename_forward, rename_back};
 ghost use Rattle.book_names.specs.Renaming.{AreCanonicalTrees, ArePlacedTrees};
@@ -30,7 +30,7 @@ pub fn stand_on_places(formulas: &SheetPlaceMap<Shared<Node>>) -> bool
     formulas.iter().all(|(key, _tree)| is_place(key.place))
 }
 
-/// Whether each kept conditional rule has a part, and its parts lie inside the sheet.
+/// Whether each kept conditional rule has a part, and its parts are inside the sheet.
 #[tactic(auto, unfolding(crate::specs::RenameDiffs::stand_on_parts))]
 fn stand_on_parts(formattings: &SheetIndexMap<ConditionalFormatting>) -> bool
     ensures { result ≡ stand_on_parts formattings.now }
@@ -40,10 +40,10 @@ fn stand_on_parts(formattings: &SheetIndexMap<ConditionalFormatting>) -> bool
         .all(|(_key, formatting)| has_parts(formatting))
 }
 
-/// Whether what is kept lies inside its sheets: each tree of a cell stands at a place of a sheet, and
+/// Whether what is kept is inside its sheets: each tree of a cell stands at a place of a sheet, and
 /// each conditional rule has a part, with all its parts inside.
-pub fn lie_in_sheets(kept: &KeptTrees) -> bool
-    ensures { result ≡ lie_in_sheets kept.now }
+pub fn are_in_sheets(kept: &KeptTrees) -> bool
+    ensures { result ≡ are_in_sheets kept.now }
 {
     stand_on_places(&kept.formulas) && stand_on_parts(&kept.formattings)
 }
@@ -103,7 +103,7 @@ fn formattings_stand(
 fn goes_forward(workbook: &Workbook, id: u32, kept: &KeptTrees) -> bool
     ensures { result ≡ goes_forward id kept.now workbook.now }
 {
-    has_sheet(workbook, id) && lie_in_sheets(kept)
+    has_sheet(workbook, id) && are_in_sheets(kept)
 }
 
 fn all_stand(workbook: &Workbook, kept: &KeptTrees) -> bool
@@ -116,7 +116,7 @@ fn all_stand(workbook: &Workbook, kept: &KeptTrees) -> bool
 
 /// Whether what is kept may stand where it stood: each tree of a cell fits its place, its sheet is there
 /// and has a formula at the place; each tree of a defined name fits A1 and has a place in the list; and
-/// each conditional rule fits its parts, which lie inside the sheet, and its sheet is there and has a
+/// each conditional rule fits its parts, which are inside the sheet, and its sheet is there and has a
 /// rule at the place in its list.
 pub fn may_stand(workbook: &Workbook, kept: &KeptTrees) -> bool
     ensures value { result ≡ may_stand kept.now workbook.now }

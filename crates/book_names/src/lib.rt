@@ -24,7 +24,7 @@ mod sheets;
 mod standing;
 
 pub use by_sheet::{SheetChange, changed_sheets};
-pub use diffs::{lie_in_sheets, may_stand, rename_back, rename_forward, stand_on_places};
+pub use diffs::{are_in_sheets, may_stand, rename_back, rename_forward, stand_on_places};
 pub use kept::kept_formulas;
 pub use kept_rules::kept_formattings;
 pub use kept_trees::KeptTrees;

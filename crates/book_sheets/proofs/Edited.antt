@@ -85,7 +85,7 @@ unfolding copy_forward
 copy_without_source at source id index name w none =
     ap (λ o. copied_from at o source id index name w) (not_found w source none)
 
--- ---- formulas and merges lie inside then
+-- ---- formulas and merges are inside then
 
 -- where a sheet was put
 pub placed_inserted : (result : Result (Unit {0}) EditError) (index : ℕ) (sheet : Sheet) (w next : Book) → IsPlacedSheet sheet → IsPlacedBook w → Changes result w next (sheet_inserted w index sheet) → OnOk result (IsPlacedBook next)

@@ -90,15 +90,15 @@ pub record IsCanonicalSheet (kept : KeptSheet) : Type 0 where
   pub names : AreCanonicalPlaced kept.names
   pub formattings : AreCanonicalRules kept.sheet.formattings
 
--- a rectangle, if there is one, lies inside the sheet
-abbrev pub lies_inside : Option MergedCell → Bool
-lies_inside None = true
-lies_inside (Some r) = is_inside r
+-- a rectangle, if there is one, is inside the sheet
+abbrev pub is_inside_if_any : Option MergedCell → Bool
+is_inside_if_any None = true
+is_inside_if_any (Some r) = is_inside r
 
--- each array and each merge of a sheet lies inside, and each of its conditional rules stands on parts inside
-unfoldable pub sheet_lies_inside : Sheet → Bool
-sheet_lies_inside sheet =
-    list_all (λ (entry : Position × Cell). lies_inside (array_at entry.0 entry.1.content)) (entries sheet.cells) && list_all is_inside sheet.merges
+-- each array and each merge of a sheet is inside, and each of its conditional rules stands on parts inside
+unfoldable pub is_sheet_inside : Sheet → Bool
+is_sheet_inside sheet =
+    list_all (λ (entry : Position × Cell). is_inside_if_any (array_at entry.0 entry.1.content)) (entries sheet.cells) && list_all is_inside sheet.merges
     && list_all has_parts sheet.formattings
 
 -- the formula of each cell fits its place
@@ -116,14 +116,14 @@ names_fit names = list_all (λ (entry : ℕ × DefinedName). tree_fits_at first_
 -- what is kept may come back among so many names
 unfoldable pub may_come_back : ℕ → KeptSheet → Bool
 may_come_back count kept =
-    sheet_lies_inside kept.sheet && cells_fit kept.sheet.cells && list_all has_fitting_trees kept.sheet.formattings
+    is_sheet_inside kept.sheet && cells_fit kept.sheet.cells && list_all has_fitting_trees kept.sheet.formattings
     && (are_places count kept.names && names_fit kept.names)
 
 -- ---- a deleted sheet
 
 -- the sheet goes, with the names that are known in it alone
 unfoldable pub deletion_forward : ℕ → KeptSheet → Book → Result Book EditError
-deletion_forward at kept book = if sheet_lies_inside kept.sheet then sheet_goes at kept.sheet.id (names_left kept.sheet.id book.names) book else Err (DiffRefused 0 at)
+deletion_forward at kept book = if is_sheet_inside kept.sheet then sheet_goes at kept.sheet.id (names_left kept.sheet.id book.names) book else Err (DiffRefused 0 at)
 
 -- the sheet comes back, and so do the names
 unfoldable pub deletion_back : ℕ → ℕ → KeptSheet → Book → Result Book EditError

@@ -6,7 +6,7 @@ ghost use Rattle.defined_names.specs.Names.{names_left};
 ghost use Rattle.sheet_lines.specs.Sheets.{IsPlacedBook};
 ghost use Rattle.book_sheets.specs.SheetDiffs.{without_sheet_at, sheet_goes, new_back, copy_back, deletion_forward};
 
-use crate::inside::sheet_lies_inside;
+use crate::inside::is_sheet_inside;
 use crate::kept_sheet::KeptSheet;
 use base_values::EditError;
 use defined_names::NameList;
@@ -88,7 +88,7 @@ pub fn deletion_forward(
     ensures edits { Edits result workbook.old workbook.new (deletion_forward at kept.now workbook.old) }
     ensures placed { OnOk result (IsPlacedBook workbook.new) }
 {
-    if !sheet_lies_inside(&kept.sheet) {
+    if !is_sheet_inside(&kept.sheet) {
         return Err(EditError::DiffRefused { entry: 0, diff: at });
     }
     sheet_goes_with_names(alloc, workbook, kept.sheet.get_sheet_id(), at)

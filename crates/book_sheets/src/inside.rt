@@ -1,4 +1,4 @@
-//! Whether arrays, merges and the parts of conditional rules lie inside the sheet, and formulas fit
+//! Whether arrays, merges and the parts of conditional rules are inside the sheet, and formulas fit
 //! their places.
 
 ghost use Rattle.std.specs.Prelude.{◌≡◌};
@@ -9,7 +9,7 @@ ghost use Rattle.cell_content.specs.Fitting.{fits_at};
 ghost use Rattle.format_rules.specs.Fitting.{has_parts, has_fitting_trees};
 ghost use Rattle.sheet_grid.specs.Arrays.{array_at};
 ghost use Rattle.sheet_grid.specs.declared.Cell.{Cell};
-ghost use Rattle.book_sheets.specs.SheetDiffs.{lies_inside, sheet_lies_inside, cells_fit};
+ghost use Rattle.book_sheets.specs.SheetDiffs.{is_inside_if_any, is_sheet_inside, cells_fit};
 
 use base_axis::{MergeList, MergedCell};
 use base_shared::Shared;
@@ -19,8 +19,8 @@ use format_rules::{RuleList, has_fitting_trees, has_parts};
 use sheet_grid::{Cell, Worksheet, array_at};
 use std::collections::btree_map::Iter;
 
-fn lies_inside(rectangle: Option<MergedCell>) -> bool
-    ensures { result ≡ lies_inside rectangle }
+fn is_inside_if_any(rectangle: Option<MergedCell>) -> bool
+    ensures { result ≡ is_inside_if_any rectangle }
 {
     match rectangle {
         Some(rectangle) => rectangle.is_inside(),
@@ -28,28 +28,28 @@ fn lies_inside(rectangle: Option<MergedCell>) -> bool
     }
 }
 
-/// Whether an array at a place lies inside the sheet. A cell that is no array does.
-pub fn array_lies_inside(place: Position, cell: &Cell) -> bool
-    ensures { result ≡ lies_inside (array_at place cell.now.content) }
+/// Whether an array at a place is inside the sheet. A cell that is no array does.
+pub fn is_array_inside(place: Position, cell: &Cell) -> bool
+    ensures { result ≡ is_inside_if_any (array_at place cell.now.content) }
 {
-    lies_inside(array_at(place, &cell.content))
+    is_inside_if_any(array_at(place, &cell.content))
 }
 
-/// Whether each merge lies inside the sheet.
-pub fn merges_lie_inside(merges: &MergeList) -> bool
+/// Whether each merge is inside the sheet.
+pub fn are_merges_inside(merges: &MergeList) -> bool
     ensures { result ≡ list_all is_inside merges.now }
 {
     merges.as_slice().iter().all(|merge| merge.is_inside())
 }
 
 /// Whether each array of these cells does.
-pub fn arrays_lie_inside(mut cells: Iter<'_, Position, Shared<Cell>>) -> bool
-    ensures { result ≡ list_all (λ (entry : Position × Cell). lies_inside (array_at entry.0 entry.1.content)) cells.entry }
+pub fn are_arrays_inside(mut cells: Iter<'_, Position, Shared<Cell>>) -> bool
+    ensures { result ≡ list_all (λ (entry : Position × Cell). is_inside_if_any (array_at entry.0 entry.1.content)) cells.entry }
 {
-    cells.all(|(place, cell)| array_lies_inside(*place, cell.get()))
+    cells.all(|(place, cell)| is_array_inside(*place, cell.get()))
 }
 
-/// Whether each conditional rule stands on a part at least, and its parts lie inside the sheet.
+/// Whether each conditional rule stands on a part at least, and its parts are inside the sheet.
 fn rules_have_parts(rules: &RuleList) -> bool
     ensures { result ≡ list_all has_parts rules.now }
 {
@@ -59,14 +59,14 @@ fn rules_have_parts(rules: &RuleList) -> bool
         .all(|formatting| has_parts(formatting))
 }
 
-/// Whether each array and each merge of a sheet lies inside, and so do the parts of each of its
+/// Whether each array and each merge of a sheet is inside, and so do the parts of each of its
 /// conditional rules, at least one.
-#[tactic(auto, unfolding(crate::specs::SheetDiffs::sheet_lies_inside))]
-pub(crate) fn sheet_lies_inside(sheet: &Worksheet) -> bool
-    ensures { result ≡ sheet_lies_inside sheet.now }
+#[tactic(auto, unfolding(crate::specs::SheetDiffs::is_sheet_inside))]
+pub(crate) fn is_sheet_inside(sheet: &Worksheet) -> bool
+    ensures { result ≡ is_sheet_inside sheet.now }
 {
-    arrays_lie_inside(sheet.cells())
-        && merges_lie_inside(sheet.merge_list())
+    are_arrays_inside(sheet.cells())
+        && are_merges_inside(sheet.merge_list())
         && rules_have_parts(sheet.conditional_formatting())
 }
 

@@ -4,7 +4,7 @@ ghost use Rattle.std.specs.Prelude.{◌≡◌, ◌<◌, ◌^◌, IfOk, IsOkUnles
 ghost use Rattle.base_values.specs.declared.EditError.TheVariants.{NoMemory};
 ghost use Rattle.book_sheets.specs.SheetDiffs.{kept_of, IsCanonicalSheet, are_places, names_fit, may_come_back};
 
-use crate::inside::{cells_fit, rules_fit, sheet_lies_inside};
+use crate::inside::{cells_fit, is_sheet_inside, rules_fit};
 use base_maps::IndexMap;
 use base_values::{EditError, Exact, Position, copy_of};
 use cell_content::tree_fits_at;
@@ -71,7 +71,7 @@ pub(crate) fn may_come_back(count: usize, kept: &KeptSheet) -> bool
     requires { count < 2 ^ 63 }
     ensures { result ≡ may_come_back count kept.now }
 {
-    sheet_lies_inside(&kept.sheet)
+    is_sheet_inside(&kept.sheet)
         && cells_fit(&kept.sheet)
         && rules_fit(kept.sheet.conditional_formatting())
         && (are_places(count, &kept.names) && names_fit(&kept.names))

@@ -14,7 +14,7 @@ mod moving;
 
 pub use coming::{copy_forward, deletion_back, new_forward};
 pub use going::{copy_back, deletion_forward, new_back};
-pub use inside::{array_lies_inside, arrays_lie_inside, each_fits, merges_lie_inside};
+pub use inside::{are_arrays_inside, are_merges_inside, each_fits, is_array_inside};
 pub use kept_sheet::KeptSheet;
 pub use laws::{later_workbooks_are_well_formed, sheet_diffs_lead_both_ways};
 pub use moving::sheet_moves;

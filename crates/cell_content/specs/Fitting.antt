@@ -9,7 +9,7 @@ use Rattle.formula_tree.specs.Placed.{is_placed}
 use Rattle.cell_content.specs.declared.content.Content.{Content}
 use Rattle.cell_content.specs.Lens.{tree_of}
 
--- each corner of the tree lies inside the sheet, the corners of each range are in order, the tree is at most 64 deep, and none
+-- each corner of the tree is inside the sheet, the corners of each range are in order, the tree is at most 64 deep, and none
 -- of its number nodes is negative
 unfoldable pub tree_fits_at : Position → Node → Bool
 tree_fits_at place tree = is_placed place tree && is_within 64 tree && has_no_negative_number tree

@@ -14,7 +14,7 @@ fn is_shallow(tree: &Node) -> bool
     is_at_most_deep(tree, MAX_DEPTH)
 }
 
-/// Whether a tree may stand at a place: each corner lies inside the sheet, the corners of each range
+/// Whether a tree may stand at a place: each corner is inside the sheet, the corners of each range
 /// are in order, no number is negative, and it is at most 64 deep.
 #[tactic(auto, unfolding(crate::specs::Fitting::tree_fits_at))]
 pub fn tree_fits_at(place: Position, tree: &Node) -> bool

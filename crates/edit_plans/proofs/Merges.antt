@@ -17,7 +17,7 @@ use Rattle.sheet_grid.specs.Merges.{merge_holding}
 use Rattle.sheet_grid.specs.Sheet.{Sheet}
 use Rattle.sheet_grid.specs.Book.{Book, sheet_at, with_sheet}
 use Rattle.sheet_rules.specs.Occupied.{are_apart, is_merge, meets_any, have_arrays, covers}
-use Rattle.sheet_rules.specs.WellFormed.{stands_inside, have_trees, have_attributes, IsWellFormed}
+use Rattle.sheet_rules.specs.WellFormed.{has_keys_inside, have_trees, have_attributes, IsWellFormed}
 use Rattle.sheet_rules.specs.laws.EntryLaws.{both}
 use Rattle.sheet_rules.specs.laws.OccupiedLaws.{keeps_merges, have_merges_from, keeps_hidden, are_hidden_blank_from}
 use Rattle.sheet_rules.specs.laws.ShownLaws.{neither, not_true, none_in}
@@ -104,7 +104,7 @@ fewer place xs merge found same = true≢false (sym (one xs found) ∙ ap (list_
 module _ (r : MergedCell) (sheet : Sheet) (is : is_merge r ≡ true) (free : meets_any sheet.merges r ≡ false)
     (clear : meets_any (large_arrays_of sheet) r ≡ false) where
   merge_rules : KeepsSheetRules sheet → KeepsSheetRules (with_merge sheet r)
-  unfolding stands_inside have_arrays have_trees have_attributes
+  unfolding has_keys_inside have_arrays have_trees have_attributes
   merge_rules h =
       let bare = rules_stay r sheet h in
       let own = keeps_merges (blanked_sheet r sheet) bare.merges in
@@ -133,7 +133,7 @@ module _ (r : MergedCell) (sheet : Sheet) (is : is_merge r ≡ true) (free : mee
       }
 
 unmerge_rules : (sheet : Sheet) (place : Position) → KeepsSheetRules sheet → KeepsSheetRules (without_merge sheet place)
-unfolding stands_inside have_arrays have_trees have_attributes
+unfolding has_keys_inside have_arrays have_trees have_attributes
 unmerge_rules sheet place h =
     let own = keeps_merges sheet h.merges in
     let hidden = keeps_hidden sheet h.hidden in

@@ -18,7 +18,7 @@ abbrev pub place_of : List MergedCell → Option Position
 place_of [] = None
 place_of (first ∷ others) = Some (anchor_place first)
 
--- it stands on one part at least, and all its parts lie inside the sheet
+-- it stands on one part at least, and all its parts are inside the sheet
 unfoldable pub has_parts : ConditionalFormatting → Bool
 has_parts formatting = not (length formatting.parts == 0) && list_all is_inside formatting.parts
 
@@ -31,13 +31,13 @@ tree_fits (Some place) tree = tree_fits_at place tree
 abbrev pub has_fitting_trees : ConditionalFormatting → Bool
 has_fitting_trees formatting = each_tree (tree_fits (place_of formatting.parts)) formatting.rule
 
--- a rule on these parts has a place, the parts lie inside the sheet, and at the place each corner of its formulas lies inside, with the
+-- a rule on these parts has a place, the parts are inside the sheet, and at the place each corner of its formulas is inside, with the
 -- corners of each range in order
-pub record StandsOn (parts : List MergedCell) (rule : CfRule) : Type 0 where
+pub record RuleOn (parts : List MergedCell) (rule : CfRule) : Type 0 where
   pub place : Position
   pub first : place_of parts ≡ Some place
   pub inside : All IsInside parts
   pub trees : HasTrees (λ tree. is_placed place tree ≡ true) rule
 
-abbrev pub StandsInside : ConditionalFormatting → Type 0
-StandsInside formatting = StandsOn formatting.parts formatting.rule
+abbrev pub RuleInside : ConditionalFormatting → Type 0
+RuleInside formatting = RuleOn formatting.parts formatting.rule

@@ -28,7 +28,7 @@ fn are_inside(parts: &[MergedCell]) -> bool
     parts.iter().all(|part| part.is_inside())
 }
 
-/// Whether a rule stands on a part of the sheet at least, and all its parts lie inside the sheet.
+/// Whether a rule stands on a part of the sheet at least, and all its parts are inside the sheet.
 #[tactic(auto, unfolding(crate::specs::Fitting::has_parts))]
 pub fn has_parts(formatting: &ConditionalFormatting) -> bool
     ensures { result ≡ has_parts formatting.now }
@@ -72,7 +72,7 @@ impl TreeTest for FitsAt {
     }
 }
 
-/// Whether each formula of a rule may stand at the rule's place: its corners lie inside the sheet,
+/// Whether each formula of a rule may stand at the rule's place: its corners are inside the sheet,
 /// those of each range are in order, no number is negative, and it is at most 64 deep. A rule
 /// without parts has no place: corners and ranges are not asked.
 pub fn has_fitting_trees(formatting: &ConditionalFormatting) -> bool

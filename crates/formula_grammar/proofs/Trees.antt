@@ -1,4 +1,4 @@
--- What holds of each tree that the grammar derives: its numbers are as those of the tokens, its corners lie inside the sheet and those of ranges in order, and it is
+-- What holds of each tree that the grammar derives: its numbers are as those of the tokens, its corners are inside the sheet and those of ranges in order, and it is
 -- no text outside of the grammar.
 use Rattle.std.proofs.Common.{◌≡◌, ℕ, ℤ, pos, Bool, true, List, [], ◌∷◌, ◌++◌, Option, Some, Ok, refl, sym, ◌∙◌, arith}
 use Rattle.std.specs.Prelude.{◌&&◌, not, neg_ℤ, unsigned_abs}
@@ -155,7 +155,7 @@ expression_follows {p} r d = expression_holds (token_follows r) (numbers_follow 
 
 -- ---- corners
 
--- what a pair of numbers is the place of lies inside
+-- what a pair of numbers is the place of is inside
 at_inside : (row column : ℤ) (at : Position) → place_of row column ≡ Ok at → is_line (pos 1048576) at.row && is_line (pos 16384) at.column ≡ true
 unfolding place_of
 at_inside row column at e = grind arith
@@ -166,7 +166,7 @@ corner_inside place mark at e =
     rw (corner_row-corner_to place mark.absolute_row mark.absolute_column at, corner_column-corner_to place mark.absolute_row mark.absolute_column at)
     (at_inside mark.row mark.column at e)
 
--- the corners of a range that lie inside are placed once they are in order
+-- the corners of a range that are inside are placed once they are in order
 range_placed : (place : Position) (sheet : Option (List ℕ)) (a b : Corner) → is_inside place a ≡ true → is_inside place b ≡ true
     → is_placed place (range_node place sheet a b) ≡ true
 range_placed place sheet a b inside_a inside_b =

@@ -66,7 +66,7 @@ rows_lines (above x rows) = (item_value x ∷ []) ∷ rows_lines rows
 
 mutual
   -- an expression of a level, counted from the tightest: one of the next tighter level, or with an operator of the level. An infix operator joins an expression of its level with
-  -- one of the next tighter level, so that chains group to the left. At level 0 no operator stands outermost: the numbers of cells and ranges lie inside the sheet, and a word
+  -- one of the next tighter level, so that chains group to the left. At level 0 no operator stands outermost: the numbers of cells and ranges are inside the sheet, and a word
   -- before a parenthesis is LAMBDA in a lambda alone
   pub data Expression (p : Profile) : ℕ → Type 0 where
     lift : {level : ℕ} → Expression p level → Expression p (suc level)

@@ -49,7 +49,7 @@ fn tree_of(alloc: Global, profile: Profile, tokens: &[Token]) -> Result<Option<N
     }
 }
 
-/// The one tree that the tokens derive in a formula at the profile's place, which lies inside the
+/// The one tree that the tokens derive in a formula at the profile's place, which is inside the
 /// sheet. `None` where they derive none.
 ///
 /// `NoMemory` where memory runs out.
@@ -64,7 +64,7 @@ pub fn read_tokens(
 
     ensures formula { IfOk result (λ o. IfSome o (λ tree. is_parse_error tree ≡ false)) }
 
-    // Each of its corners lies inside the sheet, and those of each range are in order.
+    // Each of its corners is inside the sheet, and those of each range are in order.
     ensures placed { IfOk result (λ o. IfSome o (λ tree. is_placed profile.place tree ≡ true)) }
     ensures shallow { IfOk result (λ o. IfSome o (λ tree. depth_of tree ≤ 64)) }
 

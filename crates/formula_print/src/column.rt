@@ -6,7 +6,7 @@ use base_tables::push_column;
 use base_values::LAST_COLUMN;
 use std::alloc::AllocError;
 
-/// The letters of a column, where it lies inside the sheet.
+/// The letters of a column, where it is inside the sheet.
 #[tactic(auto, unfolding(base_tables::specs::Column::column_name))]
 pub(crate) fn push_column_name(column: i32, out: &mut String) -> Result<(), AllocError>
     ensures { OnOk result (string_bytes out.new ≡ string_bytes out.old ++ some_text (column_name column)) }

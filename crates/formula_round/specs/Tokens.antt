@@ -128,7 +128,7 @@ array_tokens p lines = t.OpenBrace ∷ lines_tokens p lines ++ t.CloseBrace ∷ 
 abbrev pub plainly : Kind → List Token → Tokened
 plainly kind tokens = record { kind = kind; cell_first = false; tokens = tokens }
 
--- one node, whose children have their tokens. Corners count where they lie inside the sheet alone, and a parse error has no tokens
+-- one node, whose children have their tokens. Corners count where they are inside the sheet alone, and a parse error has no tokens
 abbrev pub token_layer : Profile → Node-F Tokened → Tokened
 token_layer p (layer.Boolean value) = plainly k.Value (t.Word (boolean_text p.language value) ∷ [])
 token_layer p (layer.Number value) = plainly k.Number (t.Number value ∷ [])

@@ -21,7 +21,7 @@ corner_row place corner = line_at corner.absolute_row place.row corner.row
 unfoldable pub corner_column : Position → Corner → ℤ
 corner_column place corner = line_at corner.absolute_column place.column corner.column
 
--- a corner lies inside the sheet
+-- a corner is inside the sheet
 unfoldable pub is_inside : Position → Corner → Bool
 is_inside place corner = is_line (pos 1048576) (corner_row place corner) && is_line (pos 16384) (corner_column place corner)
 

@@ -8,7 +8,7 @@ use Rattle.formula_tree.specs.declared.node.Node.TheOpen.{Node-F}
 use Rattle.formula_tree.specs.declared.node.Node.TheOpen as layer
 use Rattle.formula_tree.specs.Corners.{is_inside, are_in_order}
 
--- a range's corners lie inside, and in order
+-- a range's corners are inside, and in order
 unfoldable pub is_placed_range : Position → Corner → Corner → Bool
 is_placed_range place first second = (is_inside place first && is_inside place second) && are_in_order place first second
 
@@ -38,6 +38,6 @@ placed_layer place (layer.Lambda parameters a) = a
 placed_layer place (layer.LambdaCall a all) = a && list_all (λ test. test) all
 placed_layer place (layer.ImplicitIntersection a) = a
 
--- each corner of the tree lies inside the sheet, and the corners of each range are in order
+-- each corner of the tree is inside the sheet, and the corners of each range are in order
 unfoldable pub is_placed : Position → Node → Bool
 is_placed place = fold-Node Bool (placed_layer place)

@@ -49,7 +49,7 @@ pub fn corner_column(place: Position, corner: Corner) -> i64
     }
 }
 
-/// Whether a corner of a formula at `place` lies inside the sheet.
+/// Whether a corner of a formula at `place` is inside the sheet.
 #[tactic(auto, unfolding(crate::specs::Corners::is_inside))]
 pub fn is_inside(place: Position, corner: Corner) -> bool
     ensures { result ≡ is_inside place corner }

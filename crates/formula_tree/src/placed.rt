@@ -14,7 +14,7 @@ fn is_placed_range(place: Position, first: Corner, second: Corner) -> bool
     is_inside(place, first) && is_inside(place, second) && are_in_order(place, first, second)
 }
 
-/// Whether in a formula at a place each corner lies inside the sheet and the corners of each range
+/// Whether in a formula at a place each corner is inside the sheet and the corners of each range
 /// are in order.
 #[cycle(placed)]
 #[tactic(auto, using(crate::specs::laws::PlacedEquations::placings))]

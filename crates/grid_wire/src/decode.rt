@@ -118,7 +118,7 @@ fn workbook_refusal(error: EditError) -> EditError
 }
 
 /// The workbook that all of these bytes encode (docs/FORMATS.md, "Bytes"), whether it meets the rules or
-/// not. The keys of its sheets' maps lie inside the sheet.
+/// not. The keys of its sheets' maps are inside the sheet.
 ///
 /// `ParseWorkbook` where they are the encoding of no workbook: where they are cut short or go on, begin
 /// otherwise, or where a code, a count, a decimal, a text or a key in them is not one. Else refuses with

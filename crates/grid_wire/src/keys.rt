@@ -1,4 +1,4 @@
-//! Maps from positions and from lines of a sheet, whose keys lie inside it.
+//! Maps from positions and from lines of a sheet, whose keys are inside it.
 
 ghost use Rattle.std.specs.Prelude.{◌≡◌, ℤ, ◌++◌, OnOk, IfSome};
 ghost use Rattle.std.specs.FinMap.{get};

@@ -4,7 +4,7 @@
 //!
 //! The layers above see of each an encoding, which is a function of the value: what bytes can carry is
 //! read again from its encoding whatever follows, what is read was encoded so, and all else is refused
-//! with `ParseDiffs`. The keys of a sheet's maps lie inside the sheet.
+//! with `ParseDiffs`. The keys of a sheet's maps are inside the sheet.
 #![tactic(auto)]
 
 mod cell_parts;

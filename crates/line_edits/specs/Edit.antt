@@ -40,15 +40,15 @@ opposite_of (Delete first count) = Insert first count
 opposite_of (Move first count delta) = Move (first +ℤ delta) count (pos 0 -ℤ delta)
 
 -- whether an edit begins on a line of the axis, and is of 1 to all lines
-abbrev pub is_within : ℤ → ℤ → ℤ → Bool
-is_within last first count = is_line last first && is_line last count
+abbrev pub begins_inside : ℤ → ℤ → ℤ → Bool
+begins_inside last first count = is_line last first && is_line last count
 
 -- whether its numbers are those of an edit of the axis. A block that moves, and where it goes, lie on the axis
 unfoldable pub is_valid : ℤ → EditKind → Bool
-is_valid last (Insert first count) = is_within last first count
-is_valid last (Delete first count) = is_within last first count
+is_valid last (Insert first count) = begins_inside last first count
+is_valid last (Delete first count) = begins_inside last first count
 is_valid last (Move first count delta) =
-    (is_within last first count && int_le (first +ℤ count) (last +ℤ pos 1)) && (int_le (pos 1) (first +ℤ delta) && int_le ((first +ℤ count) +ℤ delta) (last +ℤ pos 1))
+    (begins_inside last first count && int_le (first +ℤ count) (last +ℤ pos 1)) && (int_le (pos 1) (first +ℤ delta) && int_le ((first +ℤ count) +ℤ delta) (last +ℤ pos 1))
 
 abbrev pub IsValid : ℤ → EditKind → Type 0
 IsValid last kind = is_valid last kind ≡ true

@@ -1,7 +1,7 @@
 ghost use Rattle.std.specs.Prelude.{◌≡◌, ◌&&◌, ◌≤ℤ◌, ◌+ℤ◌, ◌-ℤ◌, ℤ, pos, Bool, Some, IfSome, FitsSigned};
 ghost use Rattle.std.specs.Int.{w64};
 ghost use Rattle.base_values.specs.Places.{IsLine, as_line};
-ghost use Rattle.line_edits.specs.Edit.{image_at, goes_to, is_in_block, opposite_of, is_within, is_valid, IsValid};
+ghost use Rattle.line_edits.specs.Edit.{image_at, goes_to, is_in_block, opposite_of, begins_inside, is_valid, IsValid};
 ghost use Rattle.line_edits.specs.Lost.{pushed_from, lost_from, lost_to, beside_lost};
 ghost use Rattle.line_edits.specs.Moves.{inserted_by, edit_moves};
 ghost use Rattle.line_edits.specs.Splits.{splits};
@@ -141,8 +141,8 @@ pub(crate) fn passed(last: i32, first: i32, count: i32, delta: i32, line: i32) -
 }
 
 /// Whether lines begin on a line of the axis, and are 1 to all lines.
-fn is_within(last: i32, first: i32, count: i32) -> bool
-    ensures { result ≡ is_within last first count }
+fn begins_inside(last: i32, first: i32, count: i32) -> bool
+    ensures { result ≡ begins_inside last first count }
 {
     is_line(last, i64::from(first)) && is_line(last, i64::from(count))
 }
@@ -161,7 +161,7 @@ fn is_valid_move(last: i32, first: i32, count: i32, delta: i32) -> bool
     let (last_end, distance) = (i64::from(last) + 1, i64::from(delta));
     let target_ends = end + distance <= last_end;
     are_all(
-        is_within(last, first, count),
+        begins_inside(last, first, count),
         end <= last_end,
         1 <= start + distance,
         target_ends,
@@ -257,8 +257,8 @@ impl EditKind {
         ensures { result ≡ is_valid last self }
     {
         match self {
-            EditKind::Insert { first, count } => is_within(last, first, count),
-            EditKind::Delete { first, count } => is_within(last, first, count),
+            EditKind::Insert { first, count } => begins_inside(last, first, count),
+            EditKind::Delete { first, count } => begins_inside(last, first, count),
             EditKind::Move {
                 first,
                 count,

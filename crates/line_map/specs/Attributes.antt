@@ -59,5 +59,5 @@ module _ {X : Type 0} where
   lines_restored b w m lost = overlaid (if line_goes_along b w then lost else empty) (moved_map (line_goes b (back w)) (line_goes b w) m)
 
   -- every entry is that of a line of the axis
-  abbrev pub LinesLie : Along → FinMap int_cmp X → Type 0
-  LinesLie b m = KeysAre (IsLine b.last) m
+  abbrev pub LinesInside : Along → FinMap int_cmp X → Type 0
+  LinesInside b m = KeysAre (IsLine b.last) m

@@ -5,7 +5,7 @@ use Rattle.std.specs.FinMap.{FinMap}
 use Rattle.format_rules.specs.declared.ConditionalFormatting.{ConditionalFormatting}
 use Rattle.line_routes.specs.RouteModel.{RouteModel}
 use Rattle.line_map.specs.declared.edited_rules.EditedRules.{EditedRules}
-use Rattle.line_map.specs.Rules.{rules_carried, rules_kept, rules_restored, RulesLie}
+use Rattle.line_map.specs.Rules.{rules_carried, rules_kept, rules_restored, RulesInside}
 
 -- how the map meets what stands on the edited sheet, which has this name
 abbrev pub route_on : RouteModel → List ℕ → RouteModel
@@ -20,5 +20,5 @@ edited_part w v = Some (rules_kept (route_on w v.edited) v.rules)
 abbrev pub edited_restored : RouteModel → EditedRules → FinMap nat_cmp ConditionalFormatting → EditedRules
 edited_restored w v kept = record v { rules = rules_restored (route_on w v.edited) kept v.rules }
 
-abbrev pub EditedLie : EditedRules → Type 0
-EditedLie v = RulesLie v.rules
+abbrev pub EditedInside : EditedRules → Type 0
+EditedInside v = RulesInside v.rules

@@ -49,10 +49,10 @@ module _ {Q F : Type 0} (goes : RouteModel → Q → Option Q) (route_at : Route
     abbrev pub entry_part : {P : Type 0} → (RouteModel → F → Option P) → RouteModel → FinMap R F → Q → Option P
     entry_part part w m p = if_there (get m p) (λ x. if_there (goes w p) (λ q. part (route_at w p q) x))
 
-    -- its followers lie inside, under keys that fit
-    pub record AllLie (fits : Q → Type 0) (Lies : RouteModel → F → Type 0) (w : RouteModel) (m : FinMap R F) : Type 0 where
+    -- its followers are inside, under keys that fit
+    pub record AllInside (fits : Q → Type 0) (Inside : RouteModel → F → Type 0) (w : RouteModel) (m : FinMap R F) : Type 0 where
       pub places : KeysAre fits m
-      pub items : (p q : Q) (x : F) → get m p ≡ Some x → goes w p ≡ Some q → Lies (route_at w p q) x
+      pub items : (p q : Q) (x : F) → get m p ≡ Some x → goes w p ≡ Some q → Inside (route_at w p q) x
 
   -- what is kept of a map: what is laid over it stands at keys that fit, and each part fits
   pub record KeptFits {P : Type 0} {R : Q → Q → Ordering} (fits : Q → Type 0) (Fits : RouteModel → P → Type 0) (w : RouteModel) (lost : FinMap R F) (parts : Q →

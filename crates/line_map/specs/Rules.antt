@@ -7,7 +7,7 @@ use Rattle.base_axis.specs.declared.MergedCell.{MergedCell}
 use Rattle.base_axis.specs.Rectangles.{anchor_place}
 use Rattle.format_rules.specs.declared.ConditionalFormatting.{ConditionalFormatting}
 use Rattle.format_rules.specs.contracts.formatting.ConditionalFormattingPartialEq.TheImpl as equality
-use Rattle.format_rules.specs.Fitting.{StandsInside}
+use Rattle.format_rules.specs.Fitting.{RuleInside}
 use Rattle.format_rules.specs.RuleTrees.{trees_changed}
 use Rattle.line_routes.specs.MergedCells.{merged_cell_carried}
 use Rattle.line_routes.specs.Trees.{tree_carried}
@@ -59,9 +59,9 @@ KeepsRule w rules kept index rule = (get kept index ≡ Some rule) ↔ ((slice_g
 abbrev pub rules_restored : RouteModel → FinMap nat_cmp ConditionalFormatting → List ConditionalFormatting → List ConditionalFormatting
 rules_restored w kept rules = restored_by_index (formatting_carried (back w)) (λ _ own. own) (get kept) rules
 
--- each rule stands inside the sheet
-abbrev pub RulesLie : List ConditionalFormatting → Type 0
-RulesLie rules = All StandsInside rules
+-- each rule is inside the sheet
+abbrev pub RulesInside : List ConditionalFormatting → Type 0
+RulesInside rules = All RuleInside rules
 
 -- each kept rule has the place of one of so many rules
 unfoldable pub are_there : FinMap nat_cmp ConditionalFormatting → ℕ → Bool

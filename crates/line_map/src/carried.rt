@@ -5,7 +5,7 @@ ghost use Rattle.base_values.specs.declared.EditError.TheVariants.{NoMemory};
 ghost use Rattle.base_maps.specs.Carried.{entry_made, if_lost, if_there, lost_map};
 ghost use Rattle.base_maps.specs.laws.Gathering.{with_made};
 ghost use Rattle.line_map.specs.Keys.{rekeyed};
-ghost use Rattle.line_map.specs.Maps.{AllLie, carried_entry, entries_carried, entries_parts, kept_entry};
+ghost use Rattle.line_map.specs.Maps.{AllInside, carried_entry, entries_carried, entries_parts, kept_entry};
 ghost use Rattle.line_routes.specs.RouteModel.{route_model};
 
 use crate::follower::Follower;
@@ -34,7 +34,7 @@ fn carried_entry<A: Axis, M: LineMap<A>, F: Follower<A>, K: RouteKeys<A, F>>(
     item: &F,
 ) -> Result<Option<(K::Key, F)>, EditError>
     requires inside { K.fits from }
-    requires lies { (to : K.Key) → K.goes (route_model route.now) from ≡ Some to → F.Lies (K.at (route_model route.now) from to) item.now }
+    requires lies { (to : K.Key) → K.goes (route_model route.now) from ≡ Some to → F.Inside (K.at (route_model route.now) from to) item.now }
     ensures entry { IfOk result (λ entry. entry ≡ carried_entry K.goes K.at F.carry_of (route_model route.now) (from, item.now)) }
     ensures only { IsOkUnless result NoMemory }
 {
@@ -62,7 +62,7 @@ fn carried_and_kept<A: Axis, M: LineMap<A>, F: Follower<A> + Exact, K: RouteKeys
     item: &F,
 ) -> Result<(Option<(K::Key, F)>, KeptEntry<K::Key, F, F::Part>), EditError>
     requires inside { K.fits from }
-    requires lies { (to : K.Key) → K.goes (route_model route.now) from ≡ Some to → F.Lies (K.at (route_model route.now) from to) item.now }
+    requires lies { (to : K.Key) → K.goes (route_model route.now) from ≡ Some to → F.Inside (K.at (route_model route.now) from to) item.now }
     ensures carried { IfOk result (λ both. both.0 ≡ carried_entry K.goes K.at F.carry_of (route_model route.now) (from, item.now)) }
     ensures lost { IfOk result (λ both. both.1.lost ≡ entry_made Some (if_lost (K.goes (route_model route.now))) (from, item.now)) }
     ensures part { IfOk result (λ both. both.1.part ≡ kept_entry K.goes K.at F.part_of (route_model route.now) (from, item.now)) }
@@ -103,7 +103,7 @@ pub fn carried_map<A: Axis, M: LineMap<A>, F: Follower<A>, K: RouteKeys<A, F>>(
     route: &Route<'_, A, M>,
     map: &KeyMap<K, F>,
 ) -> Result<KeyMap<K, F>, EditError>
-    requires { AllLie K.goes K.at K.fits F.Lies (route_model route.now) (K.seen map.now) }
+    requires { AllInside K.goes K.at K.fits F.Inside (route_model route.now) (K.seen map.now) }
     ensures map { IfOk result (λ carried. carried ≡ K.with_brought (route_model route.now) map.now (K.model (entries_carried K.goes K.at F.carry_of (route_model route.now) (K.seen map.now)))) }
     ensures only { IsOkUnless result NoMemory }
 {
@@ -128,7 +128,7 @@ pub fn carried_with_kept<A: Axis, M: LineMap<A>, F: Follower<A> + Exact, K: Rout
     route: &Route<'_, A, M>,
     map: &KeyMap<K, F>,
 ) -> Result<(KeyMap<K, F>, KeptMap<K::Lost, K::Parts, F, F::Part>), EditError>
-    requires { AllLie K.goes K.at K.fits F.Lies (route_model route.now) (K.seen map.now) }
+    requires { AllInside K.goes K.at K.fits F.Inside (route_model route.now) (K.seen map.now) }
     ensures carried { IfOk result (λ both. both.0 ≡ K.with_brought (route_model route.now) map.now (K.model (entries_carried K.goes K.at F.carry_of (route_model route.now) (K.seen map.now)))) }
     ensures lost { IfOk result (λ both. rekeyed (K.Lost.seen both.1.lost) ≡ lost_map (K.goes (route_model route.now)) (K.seen map.now)) }
     ensures parts { IfOk result (λ both. rekeyed (K.Parts.seen both.1.parts) ≡ entries_parts K.goes K.at F.part_of (route_model route.now) (K.seen map.now)) }

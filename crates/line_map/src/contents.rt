@@ -2,7 +2,7 @@ ghost use Rattle.std.specs.Prelude.{◌≡◌, IfOk, IsOkUnless, Some};
 ghost use Rattle.base_values.specs.declared.EditError.TheVariants.{NoMemory};
 ghost use Rattle.cell_content.specs.Lens.{tree_of};
 ghost use Rattle.line_map.specs.Contents.{cell_carried, cell_part};
-ghost use Rattle.line_routes.specs.Trees.{TreeLies};
+ghost use Rattle.line_routes.specs.Trees.{TreeInside};
 ghost use Rattle.line_routes.specs.RouteModel.{route_model};
 
 use crate::follower::Follower;
@@ -20,12 +20,12 @@ use std::alloc::Global;
 impl<A: Axis> Follower<A> for Content {
     ghost use Rattle.std.specs.Prelude.{⊤};
     ghost use Rattle.cell_content.specs.Lens.{with_tree};
-    ghost use Rattle.line_map.specs.Contents.{ContentLies, content_carried, content_part};
+    ghost use Rattle.line_map.specs.Contents.{ContentInside, content_carried, content_part};
     ghost use Rattle.line_map.specs.laws.ContentLaws.{content_stays, content_comes_back, content_restores};
 
     type Part = Shared<Node>;
 
-    ghost Lies = { ContentLies };
+    ghost Inside = { ContentInside };
 
     ghost carry_of = { content_carried };
 
@@ -129,7 +129,7 @@ fn carried_cell_with_part<A: Axis, M: LineMap<A>>(
     tree: &Shared<Node>,
 ) -> Result<(Shared<Cell>, Option<Shared<Node>>), EditError>
     requires tree { tree_of cell.now.content ≡ Some tree.now }
-    requires lies { TreeLies (route_model route.now) tree.now }
+    requires lies { TreeInside (route_model route.now) tree.now }
     ensures cell { IfOk result (λ both. both.0 ≡ cell_carried (route_model route.now) cell.now) }
     ensures part { IfOk result (λ both. both.1 ≡ cell_part (route_model route.now) cell.now) }
     ensures only { IsOkUnless result NoMemory }
@@ -146,12 +146,12 @@ fn carried_cell_with_part<A: Axis, M: LineMap<A>>(
 /// Of a cell the content follows, and the style stays. A cell that stays the same is shared.
 impl<A: Axis> Follower<A> for Shared<Cell> {
     ghost use Rattle.std.specs.Prelude.{⊤};
-    ghost use Rattle.line_map.specs.Contents.{CellLies, cell_carried, cell_part, cell_restored};
+    ghost use Rattle.line_map.specs.Contents.{CellInside, cell_carried, cell_part, cell_restored};
     ghost use Rattle.line_map.specs.laws.ContentLaws.{cell_stays, cell_comes_back, cell_restores};
 
     type Part = Shared<Node>;
 
-    ghost Lies = { CellLies };
+    ghost Inside = { CellInside };
 
     ghost carry_of = { cell_carried };
 
@@ -233,7 +233,7 @@ impl<A: Axis, F: Stays> Follower<A> for F {
 
     type Part = Nothing;
 
-    ghost Lies = { λ _ _. ⊤ };
+    ghost Inside = { λ _ _. ⊤ };
 
     ghost carry_of = { λ _ value. value };
 

@@ -44,12 +44,12 @@ fn with_rules(
 /// not give, whole and under its place in the list.
 impl<A: Axis> Follower<A> for EditedRules {
     ghost use Rattle.std.specs.Prelude.{Some, ⊤};
-    ghost use Rattle.line_map.specs.EditedRules.{edited_carried, edited_part, edited_restored, EditedLie};
+    ghost use Rattle.line_map.specs.EditedRules.{edited_carried, edited_part, edited_restored, EditedInside};
     ghost use Rattle.line_map.specs.laws.EditedLaws.{edited_stay, edited_restore};
 
     type Part = IndexMap<ConditionalFormatting>;
 
-    ghost Lies = { λ _. EditedLie };
+    ghost Inside = { λ _. EditedInside };
 
     ghost carry_of = { edited_carried };
 

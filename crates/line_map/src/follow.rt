@@ -11,14 +11,14 @@ use line_routes::edit_route;
 use std::alloc::Global;
 
 /// What line edits along an axis carry along, by itself: it stands on the edited sheet, or names
-/// its own sheet. Each call asks that the edit is valid and that the value lies inside the sheet,
+/// its own sheet. Each call asks that the edit is valid and that the value is inside the sheet,
 /// and `NoMemory` is its only error. docs/MODEL.md has the rules.
 pub trait Follow<A: Axis>: Exact + Drop {
     /// What an edit's opposite does not give back.
     type Kept: Drop;
 
-    /// It lies inside the sheet.
-    ghost Lies: { EditKind → Self → Type 0 };
+    /// It is inside the sheet.
+    ghost Inside: { EditKind → Self → Type 0 };
 
     /// It is what was kept of a value that is carried along.
     ghost Restores: { EditKind → Self → Self.Kept → Type 0 };
@@ -32,14 +32,14 @@ pub trait Follow<A: Axis>: Exact + Drop {
     /// The value carried along.
     fn follow(&self, alloc: Global, edit: &LineEdit<A>) -> Result<Self, EditError>
         requires valid { IsValid A.along.last edit.now.kind }
-        requires lies { Lies edit.now.kind self.now }
+        requires lies { Inside edit.now.kind self.now }
         ensures value { IfOk result (λ value. value ≡ follow_of edit.now.kind self.now) }
         ensures only { IsOkUnless result NoMemory };
 
     /// What has to be kept of the value, so that it can be regained.
     fn kept(&self, alloc: Global, edit: &LineEdit<A>) -> Result<Self::Kept, EditError>
         requires valid { IsValid A.along.last edit.now.kind }
-        requires lies { Lies edit.now.kind self.now }
+        requires lies { Inside edit.now.kind self.now }
         ensures kept { IfOk result (λ kept. kept ≡ kept_of edit.now.kind self.now) }
         ensures only { IsOkUnless result NoMemory };
 
@@ -56,10 +56,10 @@ pub trait Follow<A: Axis>: Exact + Drop {
         ensures only { IsOkUnless result NoMemory };
 
     /// What is kept of a value can be laid over the value carried along.
-    ghost fits: { (e : EditKind) → IsValid A.along.last e → (v : Self) → Lies e v → Restores e (follow_of e v) (kept_of e v) };
+    ghost fits: { (e : EditKind) → IsValid A.along.last e → (v : Self) → Inside e v → Restores e (follow_of e v) (kept_of e v) };
 
     /// The law of followers: what is regained is the value that was carried along.
-    ghost regains: { (e : EditKind) → IsValid A.along.last e → (v : Self) → Lies e v → regain_of e (follow_of e v) (kept_of e v) ≡ v };
+    ghost regains: { (e : EditKind) → IsValid A.along.last e → (v : Self) → Inside e v → regain_of e (follow_of e v) (kept_of e v) ≡ v };
 }
 
 impl<A: Axis, F: Follower<A> + Exact> Follow<A> for F {
@@ -72,9 +72,9 @@ impl<A: Axis, F: Follower<A> + Exact> Follow<A> for F {
 
     type Kept = Option<F::Part>;
 
-    ghost Lies = { λ e. F.Lies (edit_route A.along e) };
+    ghost Inside = { λ e. F.Inside (edit_route A.along e) };
 
-    ghost Restores = { λ e. Restores F.Lies F.Fits (edit_route A.along e) };
+    ghost Restores = { λ e. Restores F.Inside F.Fits (edit_route A.along e) };
 
     ghost follow_of = { λ e. F.carry_of (edit_route A.along e) };
 
@@ -102,9 +102,9 @@ impl<A: Axis, F: Follower<A> + Exact> Follow<A> for F {
         regained(alloc, &edit_route(edit, &opposite), self, kept.as_ref())
     }
 
-    ghost fits = { λ e valid v lies. kept_fits F.Lies F.carry_of F.part_of (edit_route A.along e) (edit_is_route A.along A.lawful e valid) F.Fits F.stays F.part_fits v lies };
+    ghost fits = { λ e valid v lies. kept_fits F.Inside F.carry_of F.part_of (edit_route A.along e) (edit_is_route A.along A.lawful e valid) F.Fits F.stays F.part_fits v lies };
 
-    ghost regains = { λ e valid v lies. kept_restores F.Lies F.carry_of F.part_of (edit_route A.along e) (edit_is_route A.along A.lawful e valid) F.restore_of F.comes_back F.restores v lies };
+    ghost regains = { λ e valid v lies. kept_restores F.Inside F.carry_of F.part_of (edit_route A.along e) (edit_is_route A.along A.lawful e valid) F.restore_of F.comes_back F.restores v lies };
 }
 
 /// The law of followers: a value that is carried along and regained is the value.
@@ -114,7 +114,7 @@ pub fn there_and_back<A: Axis, F: Follow<A>>(
     edit: &LineEdit<A>,
 ) -> Result<F, EditError>
     requires valid { IsValid A.along.last edit.now.kind }
-    requires lies { F.Lies edit.now.kind value.now }
+    requires lies { F.Inside edit.now.kind value.now }
     ensures value { IfOk result (λ back. back ≡ value.now) }
     ensures only { IsOkUnless result NoMemory }
 {

@@ -10,20 +10,20 @@ use line_edits::LineMap;
 use line_routes::Route;
 use std::alloc::Global;
 
-/// What is carried along a map on lines. Each call asks that the value lies inside the sheet, and
+/// What is carried along a map on lines. Each call asks that the value is inside the sheet, and
 /// `NoMemory` is its only error. docs/MODEL.md has the rules.
 pub trait Follower<A: Axis>: Drop {
     /// What is kept of a value that the way back does not give.
     type Part: Drop;
 
-    /// It lies inside the sheet.
-    ghost Lies: { RouteModel → Self → Type 0 };
+    /// It is inside the sheet.
+    ghost Inside: { RouteModel → Self → Type 0 };
 
     ghost carry_of: { RouteModel → Self → Self };
 
     ghost part_of: { RouteModel → Self → Option Self.Part };
 
-    /// What is laid over a value lies inside the sheet.
+    /// What is laid over a value is inside the sheet.
     ghost Fits: { RouteModel → Self.Part → Type 0 };
 
     ghost restore_of: { RouteModel → Self → Self.Part → Self };
@@ -34,7 +34,7 @@ pub trait Follower<A: Axis>: Drop {
         alloc: Global,
         route: &Route<'_, A, M>,
     ) -> Result<Self, EditError>
-        requires { Lies (route_model route.now) self.now }
+        requires { Inside (route_model route.now) self.now }
         ensures value { IfOk result (λ value. value ≡ carry_of (route_model route.now) self.now) }
         ensures only { IsOkUnless result NoMemory };
 
@@ -44,7 +44,7 @@ pub trait Follower<A: Axis>: Drop {
         alloc: Global,
         route: &Route<'_, A, M>,
     ) -> Result<Option<Self::Part>, EditError>
-        requires { Lies (route_model route.now) self.now }
+        requires { Inside (route_model route.now) self.now }
         ensures part { IfOk result (λ part. part ≡ part_of (route_model route.now) self.now) }
         ensures only { IsOkUnless result NoMemory };
 
@@ -54,7 +54,7 @@ pub trait Follower<A: Axis>: Drop {
         alloc: Global,
         route: &Route<'_, A, M>,
     ) -> Result<(Self, Option<Self::Part>), EditError>
-        requires { Lies (route_model route.now) self.now }
+        requires { Inside (route_model route.now) self.now }
         ensures value { IfOk result (λ both. both.0 ≡ carry_of (route_model route.now) self.now) }
         ensures part { IfOk result (λ both. both.1 ≡ part_of (route_model route.now) self.now) }
         ensures only { IsOkUnless result NoMemory }
@@ -71,22 +71,22 @@ pub trait Follower<A: Axis>: Drop {
         route: &Route<'_, A, M>,
         part: &Self::Part,
     ) -> Result<Self, EditError>
-        requires lies { Lies (back (route_model route.now)) self.now }
+        requires lies { Inside (back (route_model route.now)) self.now }
         requires fits { Fits (route_model route.now) part.now }
         ensures value { IfOk result (λ value. value ≡ restore_of (route_model route.now) self.now part.now) }
         ensures only { IsOkUnless result NoMemory };
 
-    /// What is carried along lies inside.
-    ghost stays: { (w : RouteModel) → IsRoute w → (v : Self) → Lies w v → Lies (back w) (carry_of w v) };
+    /// What is carried along is inside.
+    ghost stays: { (w : RouteModel) → IsRoute w → (v : Self) → Inside w v → Inside (back w) (carry_of w v) };
 
-    /// What is kept lies inside too.
-    ghost part_fits: { (w : RouteModel) → IsRoute w → (v : Self) → Lies w v → (k : Self.Part) → part_of w v ≡ Some k → Fits w k };
+    /// What is kept is inside too.
+    ghost part_fits: { (w : RouteModel) → IsRoute w → (v : Self) → Inside w v → (k : Self.Part) → part_of w v ≡ Some k → Fits w k };
 
     /// Where nothing is kept, the way back gives the value.
-    ghost comes_back: { (w : RouteModel) → IsRoute w → (v : Self) → Lies w v → part_of w v ≡ None → carry_of (back w) (carry_of w v) ≡ v };
+    ghost comes_back: { (w : RouteModel) → IsRoute w → (v : Self) → Inside w v → part_of w v ≡ None → carry_of (back w) (carry_of w v) ≡ v };
 
     /// The law of followers: what was kept restores the value.
-    ghost restores: { (w : RouteModel) → IsRoute w → (v : Self) → Lies w v → (k : Self.Part) → part_of w v ≡ Some k → restore_of w (carry_of w v) k ≡ v };
+    ghost restores: { (w : RouteModel) → IsRoute w → (v : Self) → Inside w v → (k : Self.Part) → part_of w v ≡ Some k → restore_of w (carry_of w v) k ≡ v };
 }
 
 /// The value before, from the one that was carried along the route: restored from its part, if there
@@ -97,7 +97,7 @@ pub fn regained<A: Axis, M: LineMap<A>, F: Follower<A>>(
     value: &F,
     part: Option<&F::Part>,
 ) -> Result<F, EditError>
-    requires lies { F.Lies (back (route_model route.now)) value.now }
+    requires lies { F.Inside (back (route_model route.now)) value.now }
     requires fits { IfSome (option_copied part) (F.Fits (route_model route.now)) }
     ensures value { IfOk result (λ before. before ≡ settled (F.carry_of (back (route_model route.now))) (F.restore_of (route_model route.now)) (option_copied part.entry) value.now) }
     ensures only { IsOkUnless result NoMemory }

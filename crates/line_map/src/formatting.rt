@@ -2,7 +2,7 @@ ghost use Rattle.std.specs.Prelude.{◌≡◌, IfOk, IsOkUnless};
 ghost use Rattle.std.specs.List.{All};
 ghost use Rattle.base_values.specs.declared.EditError.TheVariants.{NoMemory};
 ghost use Rattle.base_axis.specs.Rectangles.{IsInside};
-ghost use Rattle.format_rules.specs.Fitting.{StandsInside};
+ghost use Rattle.format_rules.specs.Fitting.{RuleInside};
 ghost use Rattle.line_routes.specs.RouteModel.{route_model};
 ghost use Rattle.line_map.specs.Rules.{at_part, route_of_trees, formatting_moved, formatting_carried, formatting_part};
 
@@ -23,10 +23,10 @@ struct Following<'r, 'a, A: Axis, M: LineMap<A>> {
 }
 
 impl<'r, 'a, A: Axis, M: LineMap<A>> TreeChange for Following<'r, 'a, A, M> {
-    ghost use Rattle.line_routes.specs.Trees.{TreeLies, tree_carried};
+    ghost use Rattle.line_routes.specs.Trees.{TreeInside, tree_carried};
     ghost use Rattle.line_routes.specs.RouteModel.{route_model};
 
-    ghost Takes = { λ self. TreeLies (route_model self.route.now) };
+    ghost Takes = { λ self. TreeInside (route_model self.route.now) };
 
     ghost change_of = { λ self. tree_carried (route_model self.route.now) };
 
@@ -74,7 +74,7 @@ fn moved_formatting<A: Axis, M: LineMap<A>>(
     route: &Route<'_, A, M>,
     formatting: &ConditionalFormatting,
 ) -> Result<ConditionalFormatting, EditError>
-    requires { StandsInside formatting.now }
+    requires { RuleInside formatting.now }
     ensures value { IfOk result (λ output. output ≡ formatting_moved (route_model route.now) formatting.now) }
     ensures only { IsOkUnless result NoMemory }
 {
@@ -95,7 +95,7 @@ pub(crate) fn carried_formatting<A: Axis, M: LineMap<A>>(
     route: &Route<'_, A, M>,
     formatting: &ConditionalFormatting,
 ) -> Result<ConditionalFormatting, EditError>
-    requires { StandsInside formatting.now }
+    requires { RuleInside formatting.now }
     ensures value { IfOk result (λ output. output ≡ formatting_carried (route_model route.now) formatting.now) }
     ensures only { IsOkUnless result NoMemory }
 {
@@ -113,7 +113,7 @@ pub(crate) fn formatting_part<A: Axis, M: LineMap<A>>(
     route: &Route<'_, A, M>,
     formatting: &ConditionalFormatting,
 ) -> Result<Option<ConditionalFormatting>, EditError>
-    requires { StandsInside formatting.now }
+    requires { RuleInside formatting.now }
     ensures part { IfOk result (λ part. part ≡ formatting_part (route_model route.now) formatting.now) }
     ensures only { IsOkUnless result NoMemory }
 {

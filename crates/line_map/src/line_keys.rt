@@ -8,7 +8,7 @@ ghost use Rattle.base_values.specs.declared.EditError.TheVariants.{NoMemory};
 ghost use Rattle.base_maps.specs.Carried.{if_there, overlaid};
 ghost use Rattle.base_maps.specs.laws.Gathering.{with_made};
 ghost use Rattle.line_edits.specs.Edit.{amount};
-ghost use Rattle.line_map.specs.Attributes.{block_lines, heir, heirs, line_brought, line_goes_along, LinesLie};
+ghost use Rattle.line_map.specs.Attributes.{block_lines, heir, heirs, line_brought, line_goes_along, LinesInside};
 ghost use Rattle.line_map.specs.laws.HeirLaws.{Filled};
 ghost use Rattle.line_routes.specs.RouteModel.{route_model};
 
@@ -89,7 +89,7 @@ fn fill_block<B: Axis, V: Exact + Drop>(
 
 /// What the line before a line has.
 fn held_before<B: Axis, V: Drop>(map: &AxisMap<B, V>, line: i32) -> Option<&V>
-    requires { LinesLie B.along map.now }
+    requires { LinesInside B.along map.now }
     ensures { option_copied result ≡ get map.now (line -ℤ pos 1) }
 {
     if line <= 1 { None } else { map.get(line - 1) }
@@ -97,7 +97,7 @@ fn held_before<B: Axis, V: Drop>(map: &AxisMap<B, V>, line: i32) -> Option<&V>
 
 /// What each line of a block has that is brought in, from the map before.
 fn line_brought<B: Axis, V: Exact + Drop>(map: &AxisMap<B, V>, block: Block) -> Option<&V>
-    requires { LinesLie B.along map.now }
+    requires { LinesInside B.along map.now }
     ensures { option_copied result ≡ line_brought B.along V.eq map.now block }
 {
     if !B::of(false, true) {
@@ -113,7 +113,7 @@ fn give_heirs<B: Axis, V: Exact + Drop>(
     map: &AxisMap<B, V>,
     output: &mut AxisMap<B, V>,
 ) -> Result<(), EditError>
-    requires { LinesLie B.along map.now }
+    requires { LinesInside B.along map.now }
     ensures output { OnOk result (output.new ≡ overlaid (heirs B.along V.eq inserted map.now) output.old) }
     ensures only { IsOkUnless result NoMemory }
 {

@@ -16,7 +16,7 @@ impl<A: Axis, F: Follower<A>> Follower<A> for Items<F> {
     /// The part of each item.
     type Part = Items<Option<F::Part>>;
 
-    ghost Lies = { λ w. All (F.Lies w) };
+    ghost Inside = { λ w. All (F.Inside w) };
 
     ghost carry_of = { λ w. map (F.carry_of w) };
 
@@ -65,11 +65,11 @@ impl<A: Axis, F: Follower<A>> Follower<A> for Items<F> {
         Ok(output)
     }
 
-    ghost stays = { λ w is. items_stay (F.Lies w) (F.Lies (back w)) (F.carry_of w) (F.stays w is) };
+    ghost stays = { λ w is. items_stay (F.Inside w) (F.Inside (back w)) (F.carry_of w) (F.stays w is) };
 
-    ghost part_fits = { λ w is xs lie ks h. parts_fit (F.Lies w) (F.part_of w) (F.Fits w) (F.part_fits w is) xs lie ks h };
+    ghost part_fits = { λ w is xs lie ks h. parts_fit (F.Inside w) (F.part_of w) (F.Fits w) (F.part_fits w is) xs lie ks h };
 
     ghost comes_back = { λ w is xs lie h. absurd (Prim.cc) };
 
-    ghost restores = { λ w is xs lie ks h. items_restore (F.Lies w) (F.carry_of w) (F.carry_of (back w)) (F.restore_of w) (F.part_of w) (F.comes_back w is) (F.restores w is) xs lie ks h };
+    ghost restores = { λ w is xs lie ks h. items_restore (F.Inside w) (F.carry_of w) (F.carry_of (back w)) (F.restore_of w) (F.part_of w) (F.comes_back w is) (F.restores w is) xs lie ks h };
 }

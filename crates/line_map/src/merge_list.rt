@@ -7,19 +7,19 @@ use std::alloc::Global;
 
 /// Of the merges of the edited sheet those that are left go with their lines.
 impl<A: Axis> Follower<A> for MergeList {
-    ghost use Rattle.line_routes.specs.Merges.{merges_carried, merges_part, MergesLie};
+    ghost use Rattle.line_routes.specs.Merges.{merges_carried, merges_part, MergesInside};
     ghost use Rattle.line_routes.specs.laws.MergeLaws.{merges_stay, merges_part_fits, merges_come_back, merges_restore};
 
     /// The merges, where the way back does not give them.
     type Part = MergeList;
 
-    ghost Lies = { λ _. MergesLie };
+    ghost Inside = { λ _. MergesInside };
 
     ghost carry_of = { merges_carried };
 
     ghost part_of = { merges_part };
 
-    ghost Fits = { λ _. MergesLie };
+    ghost Fits = { λ _. MergesInside };
 
     ghost restore_of = { λ _ _ part. part };
 

@@ -15,7 +15,7 @@ impl<A: Axis> Follower<A> for MergedCell {
     /// The rectangle, where the way back does not give it.
     type Part = MergedCell;
 
-    ghost Lies = { λ _. IsInside };
+    ghost Inside = { λ _. IsInside };
 
     ghost carry_of = { merged_cell_carried };
 

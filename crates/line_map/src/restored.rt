@@ -6,7 +6,7 @@ ghost use Rattle.std.specs.Option.{option_copied};
 ghost use Rattle.base_values.specs.declared.EditError.TheVariants.{NoMemory};
 ghost use Rattle.base_maps.specs.Carried.{overlaid};
 ghost use Rattle.line_map.specs.Keys.{KeysAre, rekeyed};
-ghost use Rattle.line_map.specs.Maps.{AllLie, PartsFit, entries_restored, lost_along, restored_entry};
+ghost use Rattle.line_map.specs.Maps.{AllInside, PartsFit, entries_restored, lost_along, restored_entry};
 ghost use Rattle.line_routes.specs.RouteModel.{back, route_model};
 
 use crate::follower::{Follower, regained};
@@ -33,7 +33,7 @@ fn restored_entry<
     item: &F,
 ) -> Result<Option<(K::Key, F)>, EditError>
     requires inside { K.fits to }
-    requires lies { (from : K.Key) → K.goes (back (route_model route.now)) to ≡ Some from → F.Lies (K.at (back (route_model route.now)) to from) item.now }
+    requires lies { (from : K.Key) → K.goes (back (route_model route.now)) to ≡ Some from → F.Inside (K.at (back (route_model route.now)) to from) item.now }
     requires fit { PartsFit K.goes K.at F.Fits (route_model route.now) (L.part_at parts.now) }
     ensures entry { IfOk result (λ entry. entry ≡ restored_entry K.goes K.at F.carry_of F.restore_of (route_model route.now) (L.part_at parts.now) (to, item.now)) }
     ensures only { IsOkUnless result NoMemory }
@@ -61,7 +61,7 @@ fn restored_entries<
     parts: &L,
     map: &KeyMap<K, F>,
 ) -> Result<KeyMap<K, F>, EditError>
-    requires lie { AllLie K.goes K.at K.fits F.Lies (back (route_model route.now)) (K.seen map.now) }
+    requires lie { AllInside K.goes K.at K.fits F.Inside (back (route_model route.now)) (K.seen map.now) }
     requires fit { PartsFit K.goes K.at F.Fits (route_model route.now) (L.part_at parts.now) }
     ensures map { IfOk result (λ output. K.seen output ≡ entries_restored K.goes K.at F.carry_of F.restore_of (route_model route.now) (L.part_at parts.now) (K.seen map.now)) }
     ensures only { IsOkUnless result NoMemory }
@@ -123,7 +123,7 @@ pub fn restored_map<
     parts: &L,
     map: &KeyMap<K, F>,
 ) -> Result<KeyMap<K, F>, EditError>
-    requires lie { AllLie K.goes K.at K.fits F.Lies (back (route_model route.now)) (K.seen map.now) }
+    requires lie { AllInside K.goes K.at K.fits F.Inside (back (route_model route.now)) (K.seen map.now) }
     requires inside { along ≡ true → KeysAre K.fits (K.Lost.seen lost.now) }
     requires fit { PartsFit K.goes K.at F.Fits (route_model route.now) (L.part_at parts.now) }
     ensures map { IfOk result (λ output. K.seen output ≡ overlaid (rekeyed (lost_along along (K.Lost.seen lost.now))) (entries_restored K.goes K.at F.carry_of F.restore_of (route_model route.now) (L.part_at parts.now) (K.seen map.now))) }

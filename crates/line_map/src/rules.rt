@@ -6,11 +6,11 @@ ghost use Rattle.std.specs.Option.{option_copied};
 ghost use Rattle.base_maps.specs.Carried.{settled};
 ghost use Rattle.base_maps.specs.laws.Gathering.{with_made};
 ghost use Rattle.base_values.specs.declared.EditError.TheVariants.{NoMemory};
-ghost use Rattle.format_rules.specs.Fitting.{StandsInside};
+ghost use Rattle.format_rules.specs.Fitting.{RuleInside};
 ghost use Rattle.line_routes.specs.RouteModel.{back, route_model};
 ghost use Rattle.base_maps.specs.ByIndex.{kept_at, restored_at};
 ghost use Rattle.line_map.specs.Canonical.{AreCanonicalKept};
-ghost use Rattle.line_map.specs.Rules.{RulesLie, formatting_carried, formatting_part, rules_carried, rules_kept, rules_restored};
+ghost use Rattle.line_map.specs.Rules.{RulesInside, formatting_carried, formatting_part, rules_carried, rules_kept, rules_restored};
 
 use crate::formatting::{carried_formatting, formatting_part};
 use base_axis::Axis;
@@ -26,7 +26,7 @@ pub(crate) fn carried_items<A: Axis, M: LineMap<A>>(
     route: &Route<'_, A, M>,
     rules: &[ConditionalFormatting],
 ) -> Result<Items<ConditionalFormatting>, EditError>
-    requires { RulesLie rules.now }
+    requires { RulesInside rules.now }
     ensures rules { IfOk result (λ output. output ≡ rules_carried (route_model route.now) rules.now) }
     ensures only { IsOkUnless result NoMemory }
 {
@@ -45,7 +45,7 @@ fn keep_formatting<A: Axis, M: LineMap<A>>(
     formatting: &ConditionalFormatting,
     kept: &mut IndexMap<ConditionalFormatting>,
 ) -> Result<(), EditError>
-    requires { StandsInside formatting.now }
+    requires { RuleInside formatting.now }
     ensures kept { OnOk result (kept.new ≡ with_made (kept_at (formatting_part (route_model route.now)) (place, formatting.now)) kept.old) }
     ensures only { IsOkUnless result NoMemory }
 {
@@ -60,7 +60,7 @@ pub(crate) fn kept_items<A: Axis, M: LineMap<A>>(
     route: &Route<'_, A, M>,
     rules: &[ConditionalFormatting],
 ) -> Result<IndexMap<ConditionalFormatting>, EditError>
-    requires { RulesLie rules.now }
+    requires { RulesInside rules.now }
     ensures kept { IfOk result (λ kept. kept ≡ rules_kept (route_model route.now) rules.now) }
     ensures only { IsOkUnless result NoMemory }
 {
@@ -78,7 +78,7 @@ fn settled_formatting<A: Axis, M: LineMap<A>>(
     formatting: &ConditionalFormatting,
     kept: Option<&ConditionalFormatting>,
 ) -> Result<ConditionalFormatting, EditError>
-    requires { StandsInside formatting.now }
+    requires { RuleInside formatting.now }
     ensures value { IfOk result (λ output. output ≡ settled (formatting_carried (back (route_model route.now))) (λ _ own. own) (option_copied kept.entry) formatting.now) }
     ensures only { IsOkUnless result NoMemory }
 {
@@ -96,7 +96,7 @@ fn restored_formatting<A: Axis, M: LineMap<A>>(
     formatting: &ConditionalFormatting,
     kept: &IndexMap<ConditionalFormatting>,
 ) -> Result<ConditionalFormatting, EditError>
-    requires { StandsInside formatting.now }
+    requires { RuleInside formatting.now }
     ensures value { IfOk result (λ output. output ≡ restored_at (formatting_carried (back (route_model route.now))) (λ _ own. own) (get kept.now) (place, formatting.now)) }
     ensures only { IsOkUnless result NoMemory }
 {
@@ -109,7 +109,7 @@ pub(crate) fn restored_items<A: Axis, M: LineMap<A>>(
     rules: &[ConditionalFormatting],
     kept: &IndexMap<ConditionalFormatting>,
 ) -> Result<Items<ConditionalFormatting>, EditError>
-    requires { RulesLie rules.now }
+    requires { RulesInside rules.now }
     ensures rules { IfOk result (λ output. output ≡ rules_restored (route_model route.now) kept.now rules.now) }
     ensures only { IsOkUnless result NoMemory }
 {
@@ -128,9 +128,9 @@ pub fn carried_rules<A: Axis, M: LineMap<A>>(
     route: &Route<'_, A, M>,
     rules: &RuleList,
 ) -> Result<RuleList, EditError>
-    requires { RulesLie rules.now }
+    requires { RulesInside rules.now }
     ensures rules { IfOk result (λ output. output ≡ rules_carried (route_model route.now) rules.now) }
-    ensures inside { IfOk result RulesLie }
+    ensures inside { IfOk result RulesInside }
     ensures only { IsOkUnless result NoMemory }
 {
     // For the proof: the route goes one to one.
@@ -146,7 +146,7 @@ pub fn kept_rules<A: Axis, M: LineMap<A>>(
     route: &Route<'_, A, M>,
     rules: &RuleList,
 ) -> Result<IndexMap<ConditionalFormatting>, EditError>
-    requires { RulesLie rules.now }
+    requires { RulesInside rules.now }
     ensures kept { IfOk result (λ kept. kept ≡ rules_kept (route_model route.now) rules.now) }
     ensures numbers { IfOk result AreCanonicalKept }
     ensures only { IsOkUnless result NoMemory }
@@ -162,7 +162,7 @@ pub fn restored_rules<A: Axis, M: LineMap<A>>(
     rules: &RuleList,
     kept: &IndexMap<ConditionalFormatting>,
 ) -> Result<RuleList, EditError>
-    requires lie { RulesLie rules.now }
+    requires lie { RulesInside rules.now }
     requires numbers { AreCanonicalKept kept.now }
     ensures rules { IfOk result (λ output. output ≡ rules_restored (route_model route.now) kept.now rules.now) }
     ensures only { IsOkUnless result NoMemory }

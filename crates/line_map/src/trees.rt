@@ -10,12 +10,12 @@ use std::alloc::Global;
 /// A formula's tree follows with its cell. One that stays the same is shared.
 impl<A: Axis> Follower<A> for Shared<Node> {
     ghost use Rattle.std.specs.Prelude.{⊤};
-    ghost use Rattle.line_routes.specs.Trees.{TreeLies, tree_carried, tree_part};
+    ghost use Rattle.line_routes.specs.Trees.{TreeInside, tree_carried, tree_part};
     ghost use Rattle.line_routes.specs.laws.TreeLaws.{tree_stays, tree_comes_back, tree_restores};
 
     type Part = Shared<Node>;
 
-    ghost Lies = { TreeLies };
+    ghost Inside = { TreeInside };
 
     ghost carry_of = { tree_carried };
 
@@ -63,13 +63,13 @@ impl<A: Axis> Follower<A> for Shared<Node> {
 /// goes nowhere.
 impl<A: Axis> Follower<A> for TreeAt {
     ghost use Rattle.std.specs.Prelude.{⊤};
-    ghost use Rattle.line_routes.specs.TreeAt.{TreeAtLies, tree_at_carried, tree_at_part};
+    ghost use Rattle.line_routes.specs.TreeAt.{TreeAtInside, tree_at_carried, tree_at_part};
     ghost use Rattle.line_routes.specs.laws.TreeAtLaws.{tree_at_stays, tree_at_comes_back, tree_at_restores};
 
     /// The tree, where the way back does not give it.
     type Part = TreeAt;
 
-    ghost Lies = { λ _. TreeAtLies };
+    ghost Inside = { λ _. TreeAtInside };
 
     ghost carry_of = { tree_at_carried };
 

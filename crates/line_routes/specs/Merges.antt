@@ -22,6 +22,6 @@ merges_carried w merges = if w.is_edited then filter_map (merge_carried w) merge
 abbrev pub merges_part : RouteModel → List MergedCell → Option (List MergedCell)
 merges_part w merges = part_by_trial equality.ghosts.eq merges_carried w merges
 
--- each merge lies inside the sheet
-abbrev pub MergesLie : List MergedCell → Type 0
-MergesLie merges = All IsInside merges
+-- each merge is inside the sheet
+abbrev pub MergesInside : List MergedCell → Type 0
+MergesInside merges = All IsInside merges

@@ -48,11 +48,11 @@ pub record BecomesWhole (w : RouteModel) (sheet : Option (List ℕ)) (first seco
   pub second_goes : moved_corner w true second ≡ Some other
   pub whole : is_whole w.along (lower_corner w.to one other) (higher_corner w.to one other) ≡ true
 
--- no reference whose place lies inside has to be kept
+-- no reference whose place is inside has to be kept
 abbrev pub KeepsNoReference : RouteModel → Type 0
 KeepsNoReference w = (sheet : Option (List ℕ)) (corner : Corner) → is_inside w.from corner ≡ true → keeps_reference w sheet corner ≡ false
 
--- each range that has to be kept becomes whole, where its corners lie inside and in order
+-- each range that has to be kept becomes whole, where its corners are inside and in order
 abbrev pub KeepsRangesThatBecomeWhole : RouteModel → Type 0
 KeepsRangesThatBecomeWhole w = (sheet : Option (List ℕ)) (first second : Corner) → is_placed_range w.from first second ≡ true →
     keeps_range w sheet first second ≡ true → BecomesWhole w sheet first second

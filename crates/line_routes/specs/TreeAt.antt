@@ -39,7 +39,7 @@ tree_at_carried w t = tree_at_moved w t (tree_goes w t)
 abbrev pub tree_at_part : RouteModel → TreeAt → Option TreeAt
 tree_at_part w t = if is_none (tree_goes w t) then Some t else part_by_trial equality.ghosts.eq tree_at_carried w t
 
--- its cell is one of the sheet, its corners lie inside, and those of each range are in order
-pub record TreeAtLies (t : TreeAt) : Type 0 where
+-- its cell is one of the sheet, its corners are inside, and those of each range are in order
+pub record TreeAtInside (t : TreeAt) : Type 0 where
   pub place : IsPlace t.place
   pub corners : is_placed t.place t.node ≡ true

@@ -61,6 +61,6 @@ ComesBack w tree = tree_carried (back w) (tree_carried w tree) ≡ tree
 abbrev pub tree_part : RouteModel → Node → Option Node
 tree_part w tree = part_by_trial (same_value the_row.coded) tree_carried w tree
 
--- its corners lie inside the sheet, and those of each range are in order
-abbrev pub TreeLies : RouteModel → Node → Type 0
-TreeLies w tree = is_placed w.from tree ≡ true
+-- its corners are inside the sheet, and those of each range are in order
+abbrev pub TreeInside : RouteModel → Node → Type 0
+TreeInside w tree = is_placed w.from tree ≡ true

@@ -119,7 +119,7 @@ pub(crate) fn must_keep_tree<A: Axis, M: LineMap<A>>(
 /// Whether an edit of lines has to keep a formula so that it can be taken back, told by its corners
 /// without memory. The formula is that of a cell at a place of a sheet with this name, and the
 /// edited sheet has that name; names are compared by simple case folding. The edit is valid, the
-/// cell survives it, and the formula's corners lie inside, with those of each range in order.
+/// cell survives it, and the formula's corners are inside, with those of each range in order.
 /// docs/MODEL.md has the rules.
 pub fn must_keep<A: Axis>(
     node: &Node,

@@ -4,7 +4,7 @@ ghost use Rattle.std.specs.Prelude.{◌≡◌, true, not, Some, None, if◌then�
 ghost use Rattle.std.specs.Bool.{Decides};
 ghost use Rattle.formula_tree.specs.Placed.{is_placed};
 ghost use Rattle.line_routes.specs.MustKeep.{must_keep, is_move, KeepsNoReference, KeepsRangesThatBecomeWhole};
-ghost use Rattle.line_routes.specs.Trees.{ComesBack, TreeLies, tree_carried, tree_part};
+ghost use Rattle.line_routes.specs.Trees.{ComesBack, TreeInside, tree_carried, tree_part};
 ghost use Rattle.line_routes.specs.RouteModel.{route_model};
 
 use crate::route::Route;
@@ -13,7 +13,7 @@ use base_shared::Shared;
 use formula_tree::Node;
 use line_edits::{LineEdit, LineMap};
 
-/// The corners of a tree that is carried along lie inside the sheet, and those of each range are
+/// The corners of a tree that is carried along are inside the sheet, and those of each range are
 /// in order.
 pub fn followed_is_placed<A: Axis, M: LineMap<A>>(route: &Route<'_, A, M>, tree: &Shared<Node>)
     ensures { is_placed (route_model route.now).to (tree_carried (route_model route.now) tree.now) ≡ true }
@@ -29,7 +29,7 @@ pub fn followed_is_placed<A: Axis, M: LineMap<A>>(route: &Route<'_, A, M>, tree:
 /// one of its corners has no image or their images make it whole along the axis. What is kept then
 /// is the tree. This holds of every map on lines, so of insertions, deletions and moves.
 pub fn kept_by_corners<A: Axis, M: LineMap<A>>(route: &Route<'_, A, M>, tree: &Shared<Node>)
-    requires { TreeLies (route_model route.now) tree.now }
+    requires { TreeInside (route_model route.now) tree.now }
     ensures exact { Decides (not (must_keep (route_model route.now) tree.now)) (ComesBack (route_model route.now) tree.now) }
     ensures part { tree_part (route_model route.now) tree.now ≡ (if must_keep (route_model route.now) tree.now then Some tree.now else None) }
 {

@@ -2,7 +2,7 @@ ghost use Rattle.std.specs.Prelude.{◌≡◌, IfOk, IsOkUnless};
 ghost use Rattle.std.specs.List.{filter_map};
 ghost use Rattle.base_axis.specs.Rectangles.{IsInside};
 ghost use Rattle.base_values.specs.declared.EditError.TheVariants.{NoMemory};
-ghost use Rattle.line_routes.specs.Merges.{merge_carried, merges_carried, merges_part, MergesLie};
+ghost use Rattle.line_routes.specs.Merges.{merge_carried, merges_carried, merges_part, MergesInside};
 ghost use Rattle.line_routes.specs.RouteModel.{route_model};
 
 use crate::list::put_last;
@@ -31,9 +31,9 @@ fn merges_left<A: Axis, M: LineMap<A>>(
     route: &Route<'_, A, M>,
     merges: &[MergedCell],
 ) -> Result<MergeList, EditError>
-    requires { MergesLie merges.now }
+    requires { MergesInside merges.now }
     ensures value { IfOk result (λ output. output ≡ filter_map (merge_carried (route_model route.now)) merges.now) }
-    ensures inside { IfOk result MergesLie }
+    ensures inside { IfOk result MergesInside }
     ensures only { IsOkUnless result NoMemory }
 {
     // For the proof: the route goes one to one.
@@ -46,7 +46,7 @@ fn merges_left<A: Axis, M: LineMap<A>>(
 }
 
 /// The merges of a sheet, carried along a route: of those of the edited sheet the ones that are left
-/// go with their lines, in their order, and those of another sheet stay. Each lies inside the sheet.
+/// go with their lines, in their order, and those of another sheet stay. Each is inside the sheet.
 /// `NoMemory` is the only error. docs/MODEL.md has the rules.
 #[tactic(auto, unfolding(crate::specs::Merges::merges_carried))]
 pub fn carried_merges<A: Axis, M: LineMap<A>>(
@@ -54,9 +54,9 @@ pub fn carried_merges<A: Axis, M: LineMap<A>>(
     route: &Route<'_, A, M>,
     merges: &MergeList,
 ) -> Result<MergeList, EditError>
-    requires { MergesLie merges.now }
+    requires { MergesInside merges.now }
     ensures value { IfOk result (λ output. output ≡ merges_carried (route_model route.now) merges.now) }
-    ensures inside { IfOk result MergesLie }
+    ensures inside { IfOk result MergesInside }
     ensures only { IsOkUnless result NoMemory }
 {
     if route.is_edited {
@@ -67,14 +67,14 @@ pub fn carried_merges<A: Axis, M: LineMap<A>>(
 }
 
 /// What has to be kept of the merges of a sheet: the whole list, where the way back does not give
-/// it. Each merge lies inside the sheet. `NoMemory` is the only error.
+/// it. Each merge is inside the sheet. `NoMemory` is the only error.
 #[tactic(auto, unfolding(crate::specs::Trial::part_by_trial))]
 pub fn merges_part<A: Axis, M: LineMap<A>>(
     alloc: Global,
     route: &Route<'_, A, M>,
     merges: &MergeList,
 ) -> Result<Option<MergeList>, EditError>
-    requires { MergesLie merges.now }
+    requires { MergesInside merges.now }
     ensures part { IfOk result (λ part. part ≡ merges_part (route_model route.now) merges.now) }
     ensures only { IsOkUnless result NoMemory }
 {

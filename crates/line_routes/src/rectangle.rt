@@ -51,7 +51,7 @@ fn between(p: Position, q: Position) -> MergedCell
 }
 
 /// A rectangle, carried along a route: the one between where its corners go. It stays where one of
-/// them goes nowhere. It lies inside the sheet. docs/MODEL.md has the rules.
+/// them goes nowhere. It is inside the sheet. docs/MODEL.md has the rules.
 #[tactic(auto, unfolding(crate::specs::MergedCells::merged_cell_carried))]
 pub fn carried_rectangle<A: Axis, M: LineMap<A>>(
     route: &Route<'_, A, M>,

@@ -3,7 +3,7 @@ ghost use Rattle.std.specs.Bool.{Decides};
 ghost use Rattle.base_tables.specs.Folding.{same_folded};
 ghost use Rattle.base_values.specs.Places.{IsPlace};
 ghost use Rattle.base_values.specs.declared.EditError.TheVariants.{NoMemory};
-ghost use Rattle.line_routes.specs.Trees.{target, is_exposed, is_on_edited, is_whole, moved_corner, tree_carried, tree_part, TreeLies};
+ghost use Rattle.line_routes.specs.Trees.{target, is_exposed, is_on_edited, is_whole, moved_corner, tree_carried, tree_part, TreeInside};
 ghost use Rattle.line_routes.specs.RouteModel.{route_model};
 
 use crate::keeping::must_keep_along;
@@ -185,13 +185,13 @@ pub(crate) fn kept_where<T: Exact>(must_keep: bool, value: &T) -> Result<Option<
 }
 
 /// What has to be kept of the tree of a formula: the tree, where the way back does not give it. The
-/// corners of the formula lie inside the sheet, those of each range in order. `NoMemory` is the only
+/// corners of the formula are inside the sheet, those of each range in order. `NoMemory` is the only
 /// error. docs/MODEL.md has the rules.
 pub fn tree_part<A: Axis, M: LineMap<A>>(
     route: &Route<'_, A, M>,
     tree: &Shared<Node>,
 ) -> Result<Option<Shared<Node>>, EditError>
-    requires { TreeLies (route_model route.now) tree.now }
+    requires { TreeInside (route_model route.now) tree.now }
     ensures part { IfOk result (λ part. part ≡ tree_part (route_model route.now) tree.now) }
     ensures only { IsOkUnless result NoMemory }
 {

@@ -1,6 +1,6 @@
 ghost use Rattle.std.specs.Prelude.{◌≡◌, IfOk, IsOkUnless};
 ghost use Rattle.base_values.specs.declared.EditError.TheVariants.{NoMemory};
-ghost use Rattle.line_routes.specs.TreeAt.{TreeAtLies, tree_at_carried, tree_at_part};
+ghost use Rattle.line_routes.specs.TreeAt.{TreeAtInside, tree_at_carried, tree_at_part};
 ghost use Rattle.line_routes.specs.RouteModel.{route_model};
 
 use crate::keeping::must_keep_tree;
@@ -45,7 +45,7 @@ fn replaced(tree: &TreeAt, node: Node, place: Position) -> Result<TreeAt, EditEr
 }
 
 /// A tree with its own place and names, carried along on its sheet. It stays whole where its cell
-/// goes nowhere. The place lies inside the sheet. `NoMemory` is the only error. docs/MODEL.md has the
+/// goes nowhere. The place is inside the sheet. `NoMemory` is the only error. docs/MODEL.md has the
 /// rules.
 #[tactic(auto, unfolding(crate::specs::TreeAt::tree_at_carried, crate::specs::TreeAt::tree_goes))]
 pub fn carried_tree_at<A: Axis, M: LineMap<A>>(
@@ -53,7 +53,7 @@ pub fn carried_tree_at<A: Axis, M: LineMap<A>>(
     route: &Route<'_, A, M>,
     tree: &TreeAt,
 ) -> Result<TreeAt, EditError>
-    requires { TreeAtLies tree.now }
+    requires { TreeAtInside tree.now }
     ensures value { IfOk result (λ value. value ≡ tree_at_carried (route_model route.now) tree.now) }
     ensures only { IsOkUnless result NoMemory }
 {
@@ -68,13 +68,13 @@ pub fn carried_tree_at<A: Axis, M: LineMap<A>>(
 }
 
 /// What has to be kept of such a tree: the tree, where its cell goes nowhere, or the way back does
-/// not give it. Its place and its corners lie inside the sheet, those of each range in order.
+/// not give it. Its place and its corners are inside the sheet, those of each range in order.
 /// `NoMemory` is the only error.
 pub fn tree_at_part<A: Axis, M: LineMap<A>>(
     route: &Route<'_, A, M>,
     tree: &TreeAt,
 ) -> Result<Option<TreeAt>, EditError>
-    requires { TreeAtLies tree.now }
+    requires { TreeAtInside tree.now }
     ensures part { IfOk result (λ part. part ≡ tree_at_part (route_model route.now) tree.now) }
     ensures only { IsOkUnless result NoMemory }
 {

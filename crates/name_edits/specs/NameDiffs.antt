@@ -10,7 +10,7 @@ use Rattle.defined_names.specs.declared.DefinedName.{DefinedName}
 use Rattle.sheet_grid.specs.Book.{Book}
 use Rattle.sheet_rules.specs.Names.{first_place}
 use Rattle.book_names.specs.declared.KeptTrees.{KeptTrees}
-use Rattle.book_names.specs.RenameDiffs.{lie_in_sheets, may_stand}
+use Rattle.book_names.specs.RenameDiffs.{are_in_sheets, may_stand}
 use Rattle.name_edits.specs.declared.name_change.NameChange.{NameChange}
 use Rattle.name_edits.specs.NameChanges.{name_made, name_unmade, opposite}
 
@@ -34,10 +34,10 @@ comes_fitting change = option_map_or (λ (name : DefinedName). tree_fits_at firs
 abbrev pub keeps_nothing : KeptTrees → Bool
 keeps_nothing kept = (len kept.formulas == 0) && (len kept.names == 0) && (len kept.formattings == 0)
 
--- whether a change can be made. Trees and conditional rules are kept of a replacement alone, and lie inside their sheets
+-- whether a change can be made. Trees and conditional rules are kept of a replacement alone, and are inside their sheets
 unfoldable pub goes_forward : NameChange → KeptTrees → Book → Bool
 goes_forward change kept book =
-    is_change change && has_place change (length book.names) && comes_fitting change && (is_replacement change || keeps_nothing kept) && lie_in_sheets kept
+    is_change change && has_place change (length book.names) && comes_fitting change && (is_replacement change || keeps_nothing kept) && are_in_sheets kept
 
 -- whether it can be taken back
 unfoldable pub goes_back : NameChange → KeptTrees → Book → Bool

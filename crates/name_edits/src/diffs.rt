@@ -17,7 +17,7 @@ use crate::name_change::NameChange;
 use crate::sheets::{Returned, Updated};
 use base_values::{EditError, Position, copy_of};
 use book_names::{
-    KeptTrees, changed_sheets, lie_in_sheets, list_back, may_stand, shared_name, with_lists,
+    KeptTrees, are_in_sheets, changed_sheets, list_back, may_stand, shared_name, with_lists,
 };
 use cell_content::tree_fits_at;
 use defined_names::NameList;
@@ -79,7 +79,7 @@ fn goes_forward(workbook: &Workbook, change: &NameChange, kept: &KeptTrees) -> b
         && has_place(change, workbook.defined_names().len())
         && comes_fitting(change)
         && (is_replacement(change) || keeps_nothing(kept))
-        && lie_in_sheets(kept)
+        && are_in_sheets(kept)
 }
 
 /// The change that takes a change back.

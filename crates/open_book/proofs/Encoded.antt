@@ -22,7 +22,7 @@ use Rattle.sheet_history.specs.declared.Diff.TheVariants.{Cell as CellDiff, Link
 use Rattle.sheet_history.specs.declared.LineAxis.{LineAxis}
 use Rattle.sheet_history.specs.LineDiffs.{along_of}
 use Rattle.sheet_history.specs.Diffs.{IsCanonicalDiff, IsCanonicalList}
-use Rattle.book_sheets.specs.SheetDiffs.{lies_inside}
+use Rattle.book_sheets.specs.SheetDiffs.{is_inside_if_any}
 use Rattle.sheet_history.specs.Entries.{cell_stands_at, is_stored, value_fits, accepts}
 use Rattle.sheet_history.specs.Entries.EntryKey.{CellKey, AttrKey}
 use Rattle.sheet_history.specs.Entries.EntryValue.{CellValue, AttrValue}
@@ -36,7 +36,7 @@ use Rattle.open_book.specs.Encodable.{AreEncodable}
 -- a cell that may stand at its place is not deep
 shallow_standing : (place : Position) (entry : Option Cell) → cell_stands_at place entry ≡ true → IsTrue (is_shallow_entry entry)
 shallow_standing place None stands = refl
-shallow_standing place (Some cell) stands = shallow_entry place (Some cell) (both (fits_at place cell.content) (lies_inside (array_at place cell.content)) stands).0
+shallow_standing place (Some cell) stands = shallow_entry place (Some cell) (both (fits_at place cell.content) (is_inside_if_any (array_at place cell.content)) stands).0
 
 not_plain : (b : Bool) → not b ≡ true → b ≡ false
 not_plain true h = absurd cc

@@ -20,7 +20,7 @@ use Rattle.sheet_grid.specs.Arrays.{array_at}
 use Rattle.sheet_grid.specs.Dimension.{reached, extent_at, extent_of, extents_of, last_corner}
 use Rattle.sheet_grid.specs.Sheet.{Sheet}
 use Rattle.sheet_grid.specs.Book.{Book, sheet_at}
-use Rattle.sheet_rules.specs.WellFormed.{stands_inside, IsWellFormed}
+use Rattle.sheet_rules.specs.WellFormed.{has_keys_inside, IsWellFormed}
 use Rattle.sheet_rules.specs.laws.EntryLaws.{both}
 use Rattle.sheet_rules.specs.laws.WellFormedLaws.{well_formed_parts}
 use Rattle.sheet_history.specs.declared.LineAxis.{LineAxis}
@@ -85,15 +85,15 @@ first_of : (a b c d : Bool) → (a && b && c && d) ≡ true → a ≡ true
 first_of a b c d h = (both a b (both (a && b) c (both (a && b && c) d h).0).0).0
 
 -- no cell of a sheet stands behind its greatest line
-cells_up_to : (axis : LineAxis) (sheet : Sheet) → stands_inside sheet ≡ true → AllUpTo (along_of axis) (greatest_line (along_of axis) sheet) (entries sheet.cells)
-unfolding greatest_line stands_inside
+cells_up_to : (axis : LineAxis) (sheet : Sheet) → has_keys_inside sheet ≡ true → AllUpTo (along_of axis) (greatest_line (along_of axis) sheet) (entries sheet.cells)
+unfolding greatest_line has_keys_inside
 cells_up_to axis sheet inside =
     let lines : List ℤ = map (λ (extent : WorksheetDimension). (along_of axis).line (last_corner extent)) (extents_of sheet.cells) in
     up_to axis (greatest_line (along_of axis) sheet) (entries sheet.cells) (first_of _ _ _ _ inside)
     (recursion_from_All (λ line. line ≤ℤ greatest_line (along_of axis) sheet) lines (fold-int_max_bounds (pos 1) lines (greatest_line (along_of axis) sheet) refl).1)
 
 -- an edit that leaves arrays and merges whole pushes no cell past the last line
-stays_whole : (axis : LineAxis) (kind : EditKind) (sheet : Sheet) → stands_inside sheet ≡ true → LeavesWhole (along_of axis) kind sheet → stays_inside (along_of axis) kind sheet ≡ true
+stays_whole : (axis : LineAxis) (kind : EditKind) (sheet : Sheet) → has_keys_inside sheet ≡ true → LeavesWhole (along_of axis) kind sheet → stays_inside (along_of axis) kind sheet ≡ true
 unfolding stays_inside
 stays_whole axis (Insert first count) sheet inside whole =
     none_past (along_of axis) first count (greatest_line (along_of axis) sheet) (entries sheet.cells) (cells_up_to axis sheet inside) whole.room
@@ -117,7 +117,7 @@ module _ (w : Book) (rules : IsWellFormed w) (index : ℕ) (axis : LineAxis) (ki
   of_sheet : (sheet : Sheet) → sheet_at w index ≡ Ok sheet → (o : Option EditError) → refusal_of a kind sheet ≡ o → unless_refused o (sheet.id, kind) ≡ Ok plan → IsPlanned w index axis kind plan
   of_sheet sheet at None free h =
       let found = ok_or-some InvalidSheet (slice_get w.worksheets index) sheet at in
-      let inside = passes_at stands_inside w.worksheets index sheet found (well_formed_parts w rules).inside in
+      let inside = passes_at has_keys_inside w.worksheets index sheet found (well_formed_parts w rules).inside in
       record {
         sheet = sheet;
         at = at;

@@ -1,4 +1,4 @@
--- The lines and places of a rectangle inside the sheet lie inside.
+-- The lines and places of a rectangle inside the sheet are inside.
 use Rattle.std.proofs.Common.{◌≡◌, ◌⊎◌, inl, inr, ℕ, ◌<◌, ℤ, pos, ◌+ℤ◌, ◌≤ℤ◌, sym, subst, arith}
 use Rattle.std.proofs.lemmas.Int.{ints}
 use Rattle.std.specs.Prelude.{unsigned_abs}
@@ -8,7 +8,7 @@ use Rattle.base_axis.specs.Along.{Along, IsAxis, rows, columns}
 use Rattle.base_axis.specs.Rectangles.{IsInside, first_line, last_of, line_count}
 use Rattle.planned_maps.specs.Walks.{count_across, place_across}
 
--- a line of so many that lie inside lies inside
+-- a line of so many that are inside is inside
 one_inside : (last first count : ℤ) (index : ℕ) → pos 1 ≤ℤ first → pos 1 ≤ℤ count → last_of first count ≤ℤ last → index < unsigned_abs count
     → IsLine last (first +ℤ pos index)
 one_inside last first count index begins some ends few = (omega (arith, ints), omega (arith, ints))

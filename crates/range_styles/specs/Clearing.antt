@@ -8,7 +8,7 @@ use Rattle.base_values.specs.declared.EditError.{EditError}
 use Rattle.base_values.specs.declared.EditError.TheVariants.{InvalidArea, PartialArray}
 use Rattle.base_values.specs.declared.Position.{Position}
 use Rattle.base_axis.specs.declared.MergedCell.{MergedCell}
-use Rattle.base_axis.specs.Rectangles.{holds, is_inside, lies_within, meets}
+use Rattle.base_axis.specs.Rectangles.{holds, is_inside, is_inside_of, meets}
 use Rattle.cell_content.specs.declared.Content.TheVariants.{Empty}
 use Rattle.sheet_grid.specs.declared.Cell.{Cell}
 use Rattle.sheet_grid.specs.declared.Link.{Link}
@@ -21,7 +21,7 @@ use Rattle.planned_maps.specs.Planned.{planned_places}
 
 -- an array meets a rectangle and is not inside it
 abbrev pub is_cut : MergedCell → MergedCell → Bool
-is_cut r array = meets array r && not (lies_within array r)
+is_cut r array = meets array r && not (is_inside_of array r)
 
 -- one of the arrays of more than one cell of a sheet is
 abbrev pub cuts_array : MergedCell → Sheet → Bool

@@ -31,7 +31,7 @@ pub enum Clearing {
 fn is_cut(area: MergedCell, array: MergedCell) -> bool
     ensures { result ≡ is_cut area array }
 {
-    array.meets(area) && !array.lies_within(area)
+    array.meets(area) && !array.is_inside_of(area)
 }
 
 fn cuts_one(arrays: Iter<'_, Position, MergedCell>, area: MergedCell) -> bool

@@ -46,7 +46,7 @@ is_change change = is_some change.old || is_some change.new
 abbrev pub has_place : RuleChange → ℕ → Bool
 has_place change count = if is_some change.old then nat_lt change.index count else nat_le change.index count
 
--- a rule may stand on a sheet: it has a part, its parts lie inside, and its formulas fit its place
+-- a rule may stand on a sheet: it has a part, its parts are inside, and its formulas fit its place
 abbrev pub may_stand : ConditionalFormatting → Bool
 may_stand formatting = has_parts formatting && has_fitting_trees formatting
 

@@ -88,7 +88,7 @@ abbrev pub content_text : Position → Content → List ℕ
 content_text place Empty = codes "empty"
 content_text place content = content_word content ++ escaped (input_text (english place) content)
 
--- a rectangle of places by its first and its last, or by the only one; one that does not lie inside the sheet has no name
+-- a rectangle of places by its first and its last, or by the only one; one that is not inside the sheet has no name
 abbrev pub area_text : MergedCell → List ℕ
 area_text area =
     if not (is_inside area) then codes "#REF!"

@@ -11,7 +11,7 @@ use script_lines::push_reference;
 use sheet_grid::Worksheet;
 use std::alloc::{AllocError, Global};
 
-/// The last place of a rectangle that lies inside the sheet.
+/// The last place of a rectangle that is inside the sheet.
 fn last_place(area: MergedCell) -> Position
     requires { IsInside area }
     ensures { result ≡ last_place area }

@@ -27,11 +27,11 @@ use Rattle.script_runs.specs.Script.{plain_rule, rule_asked, rule_typed}
 -- ---- where a rule goes
 
 module _ (index : ℕ) (r : MergedCell) (book : Book) where
-  -- the first place of the rectangle, where that lies inside
+  -- the first place of the rectangle, where that is inside
   abbrev placed : Bool → Result Position EditError
   placed inside = map_ok anchor_place (cond inside (Ok r) (Err InvalidArea))
 
-  -- the workbook with one more rule on the rectangle, by whether that lies inside
+  -- the workbook with one more rule on the rectangle, by whether that is inside
   abbrev added : CfRule → Bool → Sheet → Result Book EditError
   added rule inside sheet =
       map_ok (with_sheet book index) (map_ok (with_changes sheet) (map_ok (λ change. change ∷ [])

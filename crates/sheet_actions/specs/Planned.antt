@@ -18,7 +18,7 @@ use Rattle.sheet_grid.specs.Sheet.{Sheet}
 use Rattle.sheet_grid.specs.Book.{Book, sheet_at}
 use Rattle.sheet_actions.specs.GreatestLine.{greatest_line}
 
--- whether an edit splits a rectangle that lies inside the sheet
+-- whether an edit splits a rectangle that is inside the sheet
 abbrev pub splits_rectangle : Along → EditKind → MergedCell → Bool
 splits_rectangle a kind r = is_inside r && splits kind (first_line a r) (last_line a r)
 

@@ -55,7 +55,7 @@ fn reaches_past<A: Axis>(first: i32, count: i32) -> bool
     is_past(A::LAST, last_of(first, count))
 }
 
-/// Whether an edit splits a rectangle that lies inside the sheet.
+/// Whether an edit splits a rectangle that is inside the sheet.
 fn splits_rectangle<A: Axis>(edit: &LineEdit<A>, rectangle: MergedCell) -> bool
     ensures { result ≡ splits_rectangle A.along edit.now.kind rectangle }
 {

@@ -1,11 +1,11 @@
--- Merges of the source lie inside the sheet, and repetitions lie not further from it than the sheet is long.
+-- Merges of the source are inside the sheet, and repetitions lie not further from it than the sheet is long.
 use Rattle.std.proofs.Common.{◌≡◌, ◌⊎◌, inl, inr, ℤ, pos, ◌-ℤ◌, ◌≤ℤ◌, Bool, true, false, ◌&&◌, refl, sym, subst, arith}
 use Rattle.std.proofs.lemmas.Int.{ints}
 use Rattle.std.specs.Prelude.{int_le}
 use Rattle.base_values.specs.Places.{IsPlace}
 use Rattle.base_axis.specs.declared.MergedCell.{MergedCell}
 use Rattle.base_axis.specs.Along.{Along, IsAxis, rows, columns}
-use Rattle.base_axis.specs.Rectangles.{anchor_place, is_part, last_column, last_row, lies_within, meets}
+use Rattle.base_axis.specs.Rectangles.{anchor_place, is_part, last_column, last_row, is_inside_of, meets}
 use Rattle.base_axis.specs.laws.RectangleLaws.{meets_found}
 use Rattle.sheet_fill.specs.declared.range.FillRange.{FillRange}
 use Rattle.sheet_fill.specs.FillRanges.{IsRange}
@@ -19,8 +19,8 @@ le : (m n : ℤ) → int_le m n ≡ true → m ≤ℤ n
 le m n h = grind (arith, ints)
 
 -- a rectangle within another begins at its first row and column or behind
-within_low : (r s : MergedCell) → lies_within r s ≡ true → (s.row ≤ℤ r.row) × (s.column ≤ℤ r.column)
-unfolding lies_within
+within_low : (r s : MergedCell) → is_inside_of r s ≡ true → (s.row ≤ℤ r.row) × (s.column ≤ℤ r.column)
+unfolding is_inside_of
 within_low r s h =
     let p = both (is_part r.row (last_row r) s.row (last_row s)) (is_part r.column (last_column r) s.column (last_column s)) h in
     let in_rows = both (int_le s.row r.row) (int_le (last_row r) (last_row s)) p.0 in
@@ -30,7 +30,7 @@ within_low r s h =
 -- the first place of a merge of the source is one of the sheet
 pub repeated_place : (f : FillRange) → IsRange f → (merge : MergedCell) → is_repeated f merge ≡ true → IsPlace (anchor_place merge)
 repeated_place f is merge repeated =
-    let tests = both (meets merge f.source) (lies_within merge f.source) repeated in
+    let tests = both (meets merge f.source) (is_inside_of merge f.source) repeated in
     let touches = meets_found merge f.source tests.0 in
     let low = within_low merge f.source tests.1 in
     let first_row = is.source.first.0.0 in

@@ -33,7 +33,7 @@ range_of a source to =
     else if int_lt to (first_line a source) then Ok (ahead a source to)
     else Err NothingToFill
 
--- the source and the target lie inside the sheet
+-- the source and the target are inside the sheet
 pub record IsRange (f : FillRange) : Type 0 where
   pub source : IsInside f.source
   pub target : IsInside f.target

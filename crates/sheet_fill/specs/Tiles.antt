@@ -6,7 +6,7 @@ use Rattle.base_values.specs.declared.EditError.{EditError}
 use Rattle.base_values.specs.declared.EditError.TheVariants.{PartialMerge, CutMerge, PartialArray}
 use Rattle.base_axis.specs.declared.MergedCell.{MergedCell}
 use Rattle.base_axis.specs.Along.{Along}
-use Rattle.base_axis.specs.Rectangles.{meets, lies_within}
+use Rattle.base_axis.specs.Rectangles.{meets, is_inside_of}
 use Rattle.sheet_grid.specs.Arrays.{large_arrays_of}
 use Rattle.sheet_grid.specs.Sheet.{Sheet}
 use Rattle.sheet_fill.specs.declared.range.FillRange.{FillRange}
@@ -16,15 +16,15 @@ use Rattle.sheet_fill.specs.FillRanges.{lines}
 
 -- a merge meets the source or the target, and is wholly in neither
 abbrev pub is_partial : FillRange → MergedCell → Bool
-is_partial f merge = (meets merge f.source || meets merge f.target) && not (lies_within merge f.source || lies_within merge f.target)
+is_partial f merge = (meets merge f.source || meets merge f.target) && not (is_inside_of merge f.source || is_inside_of merge f.target)
 
 -- a rectangle meets the target, and is not wholly in it
 abbrev pub is_cut : FillRange → MergedCell → Bool
-is_cut f r = meets r f.target && not (lies_within r f.target)
+is_cut f r = meets r f.target && not (is_inside_of r f.target)
 
 -- a merge is one of the source's
 abbrev pub is_repeated : FillRange → MergedCell → Bool
-is_repeated f merge = meets merge f.source && lies_within merge f.source
+is_repeated f merge = meets merge f.source && is_inside_of merge f.source
 
 -- ---- tiles
 

@@ -19,7 +19,7 @@ fn is_partial(range: FillRange, merge: MergedCell) -> bool
     ensures { result ≡ is_partial range merge }
 {
     (merge.meets(range.source) || merge.meets(range.target))
-        && !(merge.lies_within(range.source) || merge.lies_within(range.target))
+        && !(merge.is_inside_of(range.source) || merge.is_inside_of(range.target))
 }
 
 fn has_partial_merge(range: FillRange, merges: &[MergedCell]) -> bool

@@ -16,14 +16,14 @@ use std::alloc::{AllocError, Global};
 pub fn is_cut(range: FillRange, rectangle: MergedCell) -> bool
     ensures { result ≡ is_cut range rectangle }
 {
-    rectangle.meets(range.target) && !rectangle.lies_within(range.target)
+    rectangle.meets(range.target) && !rectangle.is_inside_of(range.target)
 }
 
 /// Whether a merge is one of the source's.
 fn is_repeated(range: FillRange, merge: MergedCell) -> bool
     ensures { result ≡ is_repeated range merge }
 {
-    merge.meets(range.source) && merge.lies_within(range.source)
+    merge.meets(range.source) && merge.is_inside_of(range.source)
 }
 
 /// How many repetitions of the source begin in the target.

@@ -96,7 +96,7 @@ rectangle_with extents rectangle other h = record {
   max_column = greatest_with (λ (e : WorksheetDimension). e.max_column) extents other rectangle.max_column h.max_column;
 }
 
--- what lies inside the sheet has a least rectangle inside
+-- what is inside the sheet has a least rectangle inside
 pub rectangle_inside : (extents : List WorksheetDimension) (rectangle : WorksheetDimension) → All IsRectangle extents → IsLeastRectangle extents rectangle → IsRectangle rectangle
 rectangle_inside extents rectangle inside least = record {
   first = (among IsRow (λ e. e.min_row) (λ e h. h.first.0) rectangle.min_row least.min_row.among, among IsColumn (λ e. e.min_column) (λ e h. h.first.1) rectangle.min_column least.min_column.among);
@@ -121,7 +121,7 @@ reached_inside last first count inside = go (int_le count (pos 1)) refl (int_lt 
     go false many true near = (grind (arith, ints), grind (arith, ints))
     go false many false far = (omega (arith, ints), omega (arith, ints))
 
--- what a cell of the sheet takes lies inside
+-- what a cell of the sheet takes is inside
 pub extent_inside : (entry : Position × Cell) → IsPlace entry.0 → IsRectangle (extent_of entry)
 extent_inside entry inside = go (array_at entry.0 entry.1.content)
   where

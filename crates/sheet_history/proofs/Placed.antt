@@ -1,4 +1,4 @@
--- Corners of formulas lie inside the sheet: in a well-formed workbook, and where an entry that fits is put.
+-- Corners of formulas are inside the sheet: in a well-formed workbook, and where an entry that fits is put.
 use Rattle.std.proofs.Common.{◌≡◌, ℕ, Bool, true, false, cond, ◌&&◌, List, [], ◌∷◌, Option, Some, None, Result, Ok, Err, refl, ap, sym, subst, ◌∙◌}
 use Rattle.std.specs.Prelude.{IfSome, OnOk, ◌==◌, is_some, length}
 use Rattle.std.specs.List.{AllByRecursion, list_all}
@@ -14,12 +14,12 @@ use Rattle.base_values.specs.laws.KeyMap.{get-with_entry}
 use Rattle.base_values.specs.laws.Places.{position_total, exact_positions}
 use Rattle.base_maps.specs.laws.Keys.{one_key}
 use Rattle.format_rules.specs.declared.ConditionalFormatting.{ConditionalFormatting}
-use Rattle.format_rules.specs.Fitting.{StandsInside, has_fitting_trees, has_parts}
-use Rattle.format_rules.specs.laws.FittingLaws.{stands_inside}
+use Rattle.format_rules.specs.Fitting.{RuleInside, has_fitting_trees, has_parts}
+use Rattle.format_rules.specs.laws.FittingLaws.{rule_inside}
 use Rattle.rule_edits.specs.declared.RuleChange.{RuleChange}
 use Rattle.rule_edits.specs.RuleChanges.{change_goes, comes_fitting, has_place, is_change, may_stand}
 use Rattle.rule_edits.specs.laws.Lists.{each_later}
-use Rattle.line_map.specs.Rules.{RulesLie}
+use Rattle.line_map.specs.Rules.{RulesInside}
 use Rattle.sheet_grid.specs.declared.Cell.{Cell}
 use Rattle.sheet_grid.specs.laws.FittingCells.{entry_fits_at}
 use Rattle.sheet_grid.specs.Sheet.{Sheet, with_cell}
@@ -30,7 +30,7 @@ use Rattle.sheet_rules.specs.Occupied.{have_merges}
 use Rattle.sheet_rules.specs.WellFormed.{have_trees, IsWellFormed}
 use Rattle.sheet_ids.specs.Ids.{sheet_of}
 use Rattle.sheet_lines.specs.Sheets.{IsPlacedCell, IsPlacedSheet, IsPlacedBook}
-use Rattle.book_sheets.specs.laws.Placed.{placed_cell, merges_lie}
+use Rattle.book_sheets.specs.laws.Placed.{placed_cell, merges_are_inside}
 use Rattle.sheet_history.specs.Entries.{EntryKey, EntryValue, cell_stands_at, value_fits, setting_of, sheet_id_of, with_sheet_entry, with_changed, entry_placed, entry_accepted, put_entry, accepts}
 use Rattle.sheet_history.specs.Entries.EntryKey.{CellKey, LinkKey, MergesKey, FieldKey, AttrKey}
 use Rattle.sheet_history.specs.Entries.EntryValue.{CellValue, LinkValue, MergesValue, FieldValue, AttrValue}
@@ -50,22 +50,22 @@ use Rattle.sheet_history.specs.declared.setting.Setting.{Setting}
 use Rattle.sheet_history.specs.declared.setting.Setting.TheVariants as setting
 use Rattle.sheet_history.specs.Settings.{SettingKind, with_setting}
 
--- rules that may stand lie inside the sheet
-rules_lie : (rules : List ConditionalFormatting) → list_all may_stand rules ≡ true → RulesLie rules
-rules_lie rules all = All-from_recursion StandsInside rules (go rules all)
+-- rules that may stand are inside the sheet
+rules_are_inside : (rules : List ConditionalFormatting) → list_all may_stand rules ≡ true → RulesInside rules
+rules_are_inside rules all = All-from_recursion RuleInside rules (go rules all)
   where
-    go : (xs : List ConditionalFormatting) → list_all may_stand xs ≡ true → AllByRecursion StandsInside xs
+    go : (xs : List ConditionalFormatting) → list_all may_stand xs ≡ true → AllByRecursion RuleInside xs
     go [] each = tt
     go (x ∷ xs) each =
         let own = both (may_stand x) (list_all may_stand xs) each in
         let parts = both (has_parts x) (has_fitting_trees x) own.0 in
-        (stands_inside x parts.0 parts.1, go xs own.1)
+        (rule_inside x parts.0 parts.1, go xs own.1)
 
 placed_sheet : (sheet : Sheet) → have_trees sheet ≡ true → have_merges sheet ≡ true → list_all may_stand sheet.formattings ≡ true → IsPlacedSheet sheet
 placed_sheet sheet trees merges stand = record {
   cells = λ place cell found. placed_cell place cell (sym (ap (entry_fits_at place) found) ∙ cells_fit_from_trees sheet trees place);
-  merges = merges_lie sheet.merges (sheet_merges_inside sheet merges);
-  formattings = rules_lie sheet.formattings stand;
+  merges = merges_are_inside sheet.merges (sheet_merges_inside sheet merges);
+  formattings = rules_are_inside sheet.formattings stand;
 }
 
 placed_sheets : (sheets : List Sheet) → list_all have_trees sheets ≡ true → list_all have_merges sheets ≡ true → list_all has_standing_rules sheets ≡ true → AllByRecursion IsPlacedSheet sheets
@@ -107,7 +107,7 @@ placed_field s _ _ all = all
 placed_entry : (s : Sheet) (k : EntryKey) (v : EntryValue) → value_fits k v ≡ true → IsPlacedSheet s → IsPlacedSheet (with_sheet_entry k v s)
 placed_entry s (CellKey id place) (CellValue entry) fits all = placed-put s place entry (fits_there place entry (both (is_place place) (cell_stands_at place entry) fits).1) all
 placed_entry s (LinkKey id place) (LinkValue entry) fits all = record { cells = all.cells; merges = all.merges; formattings = all.formattings }
-placed_entry s (MergesKey id) (MergesValue merges) fits all = record { cells = all.cells; merges = merges_lie merges fits; formattings = all.formattings }
+placed_entry s (MergesKey id) (MergesValue merges) fits all = record { cells = all.cells; merges = merges_are_inside merges fits; formattings = all.formattings }
 placed_entry s (FieldKey id field) (FieldValue v) fits all = placed_field s field v all
 placed_entry s (AttrKey id Rows line) (AttrValue entry) fits all = record { cells = all.cells; merges = all.merges; formattings = all.formattings }
 placed_entry s (AttrKey id Columns line) (AttrValue entry) fits all = record { cells = all.cells; merges = all.merges; formattings = all.formattings }
@@ -138,10 +138,10 @@ pub edit_placed : (at : ℕ) (book : Book) (k : EntryKey) (v : EntryValue) (next
 edit_placed at book k v next (Ok done) all edits = put_in-placed at book k v next all edits.done
 edit_placed at book k v next (Err error) all edits = tt
 
--- the rule that comes lies inside the sheet
-comes_inside : (new : Option ConditionalFormatting) → option_map_or may_stand new true ≡ true → IfSome new StandsInside
+-- the rule that comes is inside the sheet
+comes_inside : (new : Option ConditionalFormatting) → option_map_or may_stand new true ≡ true → IfSome new RuleInside
 comes_inside None fits = tt
-comes_inside (Some formatting) fits = let parts = both (has_parts formatting) (has_fitting_trees formatting) fits in stands_inside formatting parts.0 parts.1
+comes_inside (Some formatting) fits = let parts = both (has_parts formatting) (has_fitting_trees formatting) fits in rule_inside formatting parts.0 parts.1
 
 fitting_new : (change : RuleChange) (count : ℕ) → change_goes change count ≡ true → comes_fitting change ≡ true
 unfolding change_goes
@@ -157,7 +157,7 @@ rule_put-placed at id change book next all is =
     let done = rule_put-done at id change book next is in
     let fits = comes_inside change.new (taken_fits change (sheet_of book id) done.0) in
     subst IsPlacedBook done.1 (each_changed IsPlacedSheet (with_rules_changed change)
-    (λ s placed. record { cells = placed.cells; merges = placed.merges; formattings = each_later StandsInside change s.formattings placed.formattings fits }) id book.worksheets all)
+    (λ s placed. record { cells = placed.cells; merges = placed.merges; formattings = each_later RuleInside change s.formattings placed.formattings fits }) id book.worksheets all)
 
 -- so it is after a call that makes one
 pub rule_placed : (at id : ℕ) (change : RuleChange) (book next : Book) (result : Result (Unit {0}) EditError) → IsPlacedBook book → Edits result book next (rule_put at id change book) → OnOk result (IsPlacedBook next)

@@ -23,7 +23,7 @@ use Rattle.sheet_grid.specs.Lines.{is_plain}
 use Rattle.sheet_grid.specs.Sheet.{Sheet}
 use Rattle.sheet_grid.specs.Book.{Book}
 use Rattle.sheet_ids.specs.Ids.{sheet_of}
-pub use Rattle.book_sheets.specs.SheetDiffs.{lies_inside}
+pub use Rattle.book_sheets.specs.SheetDiffs.{is_inside_if_any}
 use Rattle.sheet_history.specs.declared.diff.LineAxis.{LineAxis}
 use Rattle.sheet_history.specs.declared.diff.LineAxis.TheVariants.{Rows, Columns}
 use Rattle.sheet_history.specs.LineDiffs.{along_of}
@@ -127,18 +127,18 @@ with_sheet_entry (AttrKey id Columns line) (AttrValue entry) sheet = record shee
 with_sheet_entry (SettingKey kind) value sheet = sheet
 with_sheet_entry _ _ sheet = sheet
 
--- what is put at a place, a cell or none, may stand there: a formula fits its place, and an array lies inside the sheet
+-- what is put at a place, a cell or none, may stand there: a formula fits its place, and an array is inside the sheet
 abbrev pub cell_stands_at : Position → Option Cell → Bool
 cell_stands_at place None = true
-cell_stands_at place (Some cell) = fits_at place cell.content && lies_inside (array_at place cell.content)
+cell_stands_at place (Some cell) = fits_at place cell.content && is_inside_if_any (array_at place cell.content)
 
 -- what a line has of its own is something, if it is there
 abbrev pub is_stored : Option LineAttr → Bool
 is_stored None = true
 is_stored (Some attr) = not (is_plain attr)
 
--- whether a value may stand at a key of a sheet: it is one of the key's kind, the place or the line lies inside the sheet, a cell may stand
--- there, what a line has is something, and each merge lies inside. A setting stands in no sheet
+-- whether a value may stand at a key of a sheet: it is one of the key's kind, the place or the line is inside the sheet, a cell may stand
+-- there, what a line has is something, and each merge is inside. A setting stands in no sheet
 abbrev pub value_fits : EntryKey → EntryValue → Bool
 value_fits (CellKey id place) (CellValue entry) = is_place place && cell_stands_at place entry
 value_fits (LinkKey id place) (LinkValue entry) = is_place place

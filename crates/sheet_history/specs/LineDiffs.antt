@@ -26,7 +26,7 @@ use Rattle.sheet_lines.specs.declared.KeptLines.{KeptLines}
 use Rattle.sheet_ids.specs.Ids.{sheet_of}
 use Rattle.sheet_lines.specs.Followed.{book_followed}
 use Rattle.sheet_lines.specs.Back.{book_back}
-use Rattle.book_sheets.specs.SheetDiffs.{lies_inside, cells_fit}
+use Rattle.book_sheets.specs.SheetDiffs.{is_inside_if_any, cells_fit}
 use Rattle.rule_edits.specs.RuleChanges as rule_changes
 use Rattle.line_map.specs.Rules.{are_there}
 use Rattle.book_names.specs.RenameDiffs.{formulas_stand, stand_on_places}
@@ -64,24 +64,24 @@ is_lost_line a e line = is_line a.last line && is_none (image_at a.last e line)
 abbrev pub all_keys : {K X : Type 0} {R : K → K → Ordering} → (K → Bool) → FinMap R X → Bool
 all_keys test m = list_all (λ entry. test entry.0) (entries m)
 
--- each kept cell, link and line lies inside the sheet, on a line without an image, and each kept tree at a place of the sheet
+-- each kept cell, link and line is inside the sheet, on a line without an image, and each kept tree at a place of the sheet
 unfoldable pub stand_on_lost : Along → EditKind → KeptLines → Bool
 stand_on_lost a e kept =
     (all_keys (is_lost_place a e) kept.cells && all_keys (is_lost_place a e) kept.links) && (all_keys (is_lost_line a e) kept.lines && stand_on_places kept.formulas)
 
--- each of the kept merges, if they are there, lies inside the sheet
+-- each of the kept merges, if they are there, is inside the sheet
 abbrev pub merges_inside : Option (List MergedCell) → Bool
 merges_inside None = true
 merges_inside (Some merges) = list_all is_inside merges
 
--- each kept conditional rule has a part, and its parts lie inside the sheet
+-- each kept conditional rule has a part, and its parts are inside the sheet
 abbrev pub parts_inside : FinMap nat_cmp ConditionalFormatting → Bool
 parts_inside formattings = list_all (λ (entry : ℕ × ConditionalFormatting). has_parts entry.1) (entries formattings)
 
--- each kept cell that is an array lies inside the sheet, and so do each kept merge and the parts of each kept conditional rule
-unfoldable pub lie_inside : KeptLines → Bool
-lie_inside kept =
-    list_all (λ (entry : Position × Cell). lies_inside (array_at entry.0 entry.1.content)) (entries kept.cells) && merges_inside kept.merges && parts_inside kept.formattings
+-- each kept cell that is an array is inside the sheet, and so do each kept merge and the parts of each kept conditional rule
+unfoldable pub are_kept_lines_inside : KeptLines → Bool
+are_kept_lines_inside kept =
+    list_all (λ (entry : Position × Cell). is_inside_if_any (array_at entry.0 entry.1.content)) (entries kept.cells) && merges_inside kept.merges && parts_inside kept.formattings
 
 -- where a place of a sheet goes, which is the edited one or another one
 unfoldable pub goes_on : Along → EditKind → ℕ → Sheet → Position → Option Position
@@ -102,12 +102,12 @@ may_stand a id e kept book = cells_fit kept.cells && formulas_stand (goes_on a e
 
 -- whether an edit of the sheet of an id can be made
 abbrev pub goes_forward : Along → ℕ → EditKind → KeptLines → Book → Bool
-goes_forward a id e kept book = is_valid a.last e && is_there_inside a e (sheet_of book id) && (stand_on_lost a e kept && lie_inside kept)
+goes_forward a id e kept book = is_valid a.last e && is_there_inside a e (sheet_of book id) && (stand_on_lost a e kept && are_kept_lines_inside kept)
 
 -- whether it can be taken back
 abbrev pub goes_back : Along → ℕ → EditKind → KeptLines → Book → Bool
 goes_back a id e kept book =
-    is_valid a.last e && is_there_inside a (opposite_of e) (sheet_of book id) && (stand_on_lost a e kept && lie_inside kept) && may_stand a id e kept book
+    is_valid a.last e && is_there_inside a (opposite_of e) (sheet_of book id) && (stand_on_lost a e kept && are_kept_lines_inside kept) && may_stand a id e kept book
 
 -- the workbook with the edit made, or the diff of that number is refused
 unfoldable pub lines_forward : ℕ → Along → ℕ → EditKind → KeptLines → Book → Result Book EditError

@@ -8,13 +8,13 @@ ghost use Rattle.base_values.specs.declared.Position.{Position};
 ghost use Rattle.line_edits.specs.Edit.{IsValid, image_at, opposite_of};
 ghost use Rattle.line_edits.specs.Moves.{place_image};
 ghost use Rattle.sheet_grid.specs.declared.Cell.{Cell};
-ghost use Rattle.sheet_lines.specs.Back.{AreCanonicalLines, ArePlacedLines, LieInside};
+ghost use Rattle.sheet_lines.specs.Back.{AreCanonicalLines, ArePlacedLines, KeptLinesInside};
 ghost use Rattle.sheet_ids.specs.Ids.{sheet_of};
 ghost use Rattle.sheet_lines.specs.Sheets.{IsPlacedBook};
 ghost use Rattle.book_sheets.specs.SheetDiffs.{cells_fit};
-ghost use Rattle.line_map.specs.Canonical.{KeptLie};
+ghost use Rattle.line_map.specs.Canonical.{KeptInside};
 ghost use Rattle.sheet_history.specs.LineDiffs.{is_pushed_past, stays_inside, is_there_inside, is_lost_place, is_lost_line, all_keys};
-ghost use Rattle.sheet_history.specs.LineDiffs.{stand_on_lost, lie_inside, merges_inside, parts_inside, each_stands, formattings_stand, may_stand};
+ghost use Rattle.sheet_history.specs.LineDiffs.{stand_on_lost, are_kept_lines_inside, merges_inside, parts_inside, each_stands, formattings_stand, may_stand};
 ghost use Rattle.sheet_history.specs.LineDiffs.{goes_forward, goes_back, lines_forward, lines_back};
 
 use base_axis::{Axis, MergeList};
@@ -22,7 +22,7 @@ use base_maps::{IndexMap, NumberMap, PositionMap};
 use base_shared::Shared;
 use base_values::{EditError, Position, is_line, is_place};
 use book_names::{FormulaPlace, formulas_stand, stand_on_places};
-use book_sheets::{arrays_lie_inside, each_fits, merges_lie_inside};
+use book_sheets::{are_arrays_inside, are_merges_inside, each_fits};
 use format_rules::{ConditionalFormatting, has_fitting_trees, has_parts};
 use line_edits::place_image;
 use line_map::{EditKind, LineEdit, are_there};
@@ -105,7 +105,7 @@ fn are_lost_lines<A: Axis, V>(edit: &LineEdit<A>, map: &NumberMap<V>) -> bool
     map.iter().all(|(line, _value)| is_lost_line(edit, *line))
 }
 
-/// Whether what is kept of lines lies inside the sheet where lines have no image, and each kept
+/// Whether what is kept of lines is inside the sheet where lines have no image, and each kept
 /// tree inside a sheet.
 #[tactic(auto, unfolding(crate::specs::LineDiffs::stand_on_lost))]
 fn stand_on_lost<A: Axis>(edit: &LineEdit<A>, kept: &KeptLines) -> bool
@@ -119,12 +119,12 @@ fn merges_inside(merges: &Option<MergeList>) -> bool
     ensures { result ≡ merges_inside merges.now }
 {
     match merges {
-        Some(merges) => merges_lie_inside(merges),
+        Some(merges) => are_merges_inside(merges),
         None => true,
     }
 }
 
-/// Whether each kept conditional rule has a part, and its parts lie inside the sheet.
+/// Whether each kept conditional rule has a part, and its parts are inside the sheet.
 fn parts_inside(formattings: &IndexMap<ConditionalFormatting>) -> bool
     ensures { result ≡ parts_inside formattings.now }
 {
@@ -133,23 +133,23 @@ fn parts_inside(formattings: &IndexMap<ConditionalFormatting>) -> bool
         .all(|(_place, formatting)| has_parts(formatting))
 }
 
-/// Whether each kept cell that is an array lies inside the sheet, and so do each kept merge and the parts
+/// Whether each kept cell that is an array is inside the sheet, and so do each kept merge and the parts
 /// of each kept conditional rule.
-#[tactic(auto, unfolding(crate::specs::LineDiffs::lie_inside))]
-fn lie_inside(kept: &KeptLines) -> bool
-    ensures { result ≡ lie_inside kept.now }
+#[tactic(auto, unfolding(crate::specs::LineDiffs::are_kept_lines_inside))]
+fn are_kept_lines_inside(kept: &KeptLines) -> bool
+    ensures { result ≡ are_kept_lines_inside kept.now }
 {
-    arrays_lie_inside(kept.cells.iter())
+    are_arrays_inside(kept.cells.iter())
         && merges_inside(&kept.merges)
         && parts_inside(&kept.formattings)
 }
 
-/// Whether what is kept passes `stand_on_lost` and `lie_inside`.
-fn kept_lies_inside<A: Axis>(edit: &LineEdit<A>, kept: &KeptLines) -> bool
-    ensures value { result ≡ (stand_on_lost A.along edit.now.kind kept.now && lie_inside kept.now) }
-    ensures inside { IsTrue result → LieInside A.along kept.now }
+/// Whether what is kept passes `stand_on_lost` and `are_kept_lines_inside`.
+fn is_kept_inside<A: Axis>(edit: &LineEdit<A>, kept: &KeptLines) -> bool
+    ensures value { result ≡ (stand_on_lost A.along edit.now.kind kept.now && are_kept_lines_inside kept.now) }
+    ensures inside { IsTrue result → KeptLinesInside A.along kept.now }
 {
-    stand_on_lost(edit, kept) && lie_inside(kept)
+    stand_on_lost(edit, kept) && are_kept_lines_inside(kept)
 }
 
 /// Whether the formula of each cell fits its place.
@@ -186,7 +186,7 @@ fn goes_forward<A: Axis>(edit: &LineEdit<A>, id: u32, kept: &KeptLines, workbook
     ensures value { result ≡ goes_forward A.along id edit.now.kind kept.now workbook.now }
     ensures valid { IsTrue result → IsValid A.along.last edit.now.kind }
 {
-    edit.is_valid() && is_there_inside(edit, workbook, id) && kept_lies_inside(edit, kept)
+    edit.is_valid() && is_there_inside(edit, workbook, id) && is_kept_inside(edit, kept)
 }
 
 /// Makes an edit of lines, where it can be made. `at` is the number of its diff.
@@ -236,7 +236,7 @@ fn formattings_stand(
     id: u32,
 ) -> bool
     ensures value { result ≡ formattings_stand formattings.now (sheet_of workbook.now id) }
-    ensures lie { IsTrue result → KeptLie formattings.now }
+    ensures lie { IsTrue result → KeptInside formattings.now }
 {
     match sheet_of(workbook, id) {
         Some(sheet) => {
@@ -261,12 +261,12 @@ fn goes_back<A: Axis>(edit: &LineEdit<A>, id: u32, kept: &KeptLines, workbook: &
     ensures value { result ≡ goes_back A.along id edit.now.kind kept.now workbook.now }
     ensures valid { IsTrue result → IsValid A.along.last edit.now.kind }
     ensures there { IsTrue result → IsTrue (is_some (sheet_of workbook.now id)) }
-    ensures inside { IsTrue result → LieInside A.along kept.now }
+    ensures inside { IsTrue result → KeptLinesInside A.along kept.now }
     ensures placed { IsTrue result → ArePlacedLines kept.now }
 {
     edit.is_valid()
         && is_there_inside_back(edit, workbook, id)
-        && kept_lies_inside(edit, kept)
+        && is_kept_inside(edit, kept)
         && may_stand(edit, id, kept, workbook)
 }
 

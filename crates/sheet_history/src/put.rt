@@ -21,7 +21,7 @@ use crate::field::SheetField;
 use base_axis::MergeList;
 use base_shared::Shared;
 use base_values::{EditError, Position, copy_of};
-use book_sheets::{array_lies_inside, merges_lie_inside};
+use book_sheets::{are_merges_inside, is_array_inside};
 use cell_content::fits_at;
 use sheet_grid::{Cell, ColumnAttr, LineAttr, Link, RowAttr, Workbook, Worksheet, sheet_index};
 
@@ -30,9 +30,7 @@ fn cell_stands_at(place: Position, entry: &Option<Shared<Cell>>) -> bool
     ensures { result ≡ cell_stands_at place entry.now }
 {
     match entry {
-        Some(cell) => {
-            fits_at(place, &cell.get().content) && array_lies_inside(place, cell.get())
-        }
+        Some(cell) => { fits_at(place, &cell.get().content) && is_array_inside(place, cell.get()) }
         None => true,
     }
 }
@@ -76,11 +74,11 @@ fn put_link_in(
     }
 }
 
-/// Puts merges in place of those of a sheet, where each lies inside.
+/// Puts merges in place of those of a sheet, where each is inside.
 fn put_merges_in(sheet: &mut Worksheet, merges: &MergeList, at: u64) -> Result<(), EditError>
     ensures { Edits result sheet.old sheet.new (sheet_put at (MergesKey sheet.old.id) (MergesValue merges.now) sheet.old) }
 {
-    if !merges_lie_inside(merges) {
+    if !are_merges_inside(merges) {
         return Err(EditError::DiffRefused { entry: 0, diff: at });
     }
     sheet.set_merged_cells(copy_of(merges)?.into_items());
@@ -246,7 +244,7 @@ pub(crate) fn put_link(
     put_link_in(sheet, place, entry, at)
 }
 
-/// Puts merges in place of those of the sheet of an id, where each lies inside. `at` is the number
+/// Puts merges in place of those of the sheet of an id, where each is inside. `at` is the number
 /// of their diff.
 pub(crate) fn put_merges(
     workbook: &mut Workbook,

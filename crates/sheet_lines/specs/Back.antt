@@ -6,12 +6,12 @@ use Rattle.base_axis.specs.Along.{Along}
 use Rattle.base_maps.specs.Carried.{overlaid}
 use Rattle.base_maps.specs.Tagged.{place_on}
 use Rattle.line_edits.specs.declared.EditKind.{EditKind}
-use Rattle.line_map.specs.Attributes.{LinesLie}
+use Rattle.line_map.specs.Attributes.{LinesInside}
 use Rattle.line_map.specs.Contents.{cell_carried, cell_restored}
 use Rattle.line_map.specs.Maps.{lost_along, places_restored, KeysInside}
-use Rattle.line_routes.specs.Merges.{MergesLie}
+use Rattle.line_routes.specs.Merges.{MergesInside}
 use Rattle.line_routes.specs.RouteModel.{RouteModel, back}
-use Rattle.line_map.specs.Canonical.{AreCanonicalKept, KeptLie}
+use Rattle.line_map.specs.Canonical.{AreCanonicalKept, KeptInside}
 use Rattle.formula_tree.specs.declared.Node.{Node}
 use Rattle.formula_tree.specs.Numbers.{has_canonical_numbers}
 use Rattle.formula_tree.specs.Placed.{is_placed}
@@ -45,18 +45,18 @@ book_restored w book kept = record book { worksheets = sheets_back w kept book.w
 abbrev pub book_back : Along → EditKind → ℕ → KeptLines → Book → Book
 book_back a e id kept book = book_restored (book_route a e id book) book kept
 
--- the keys and the merges of what is kept lie inside the sheet
-pub record LieInside (a : Along) (kept : KeptLines) : Type 0 where
+-- the keys and the merges of what is kept are inside the sheet
+pub record KeptLinesInside (a : Along) (kept : KeptLines) : Type 0 where
   pub cells : KeysInside kept.cells
   pub links : KeysInside kept.links
-  pub lines : LinesLie a kept.lines
-  pub merges : IfSome kept.merges MergesLie
+  pub lines : LinesInside a kept.lines
+  pub merges : IfSome kept.merges MergesInside
 
--- the trees of what is kept may stand where they stood, and the conditional rules stand inside the sheet
+-- the trees of what is kept may stand where they stood, and the conditional rules are inside the sheet
 pub record ArePlacedLines (kept : KeptLines) : Type 0 where
   pub cells : (place : Position) (cell : Cell) → get kept.cells place ≡ Some cell → IsPlacedCell place cell
   pub formulas : (key : SheetPlace) (tree : Node) → get kept.formulas key ≡ Some tree → is_placed key.place tree ≡ true
-  pub formattings : KeptLie kept.formattings
+  pub formattings : KeptInside kept.formattings
 
 -- every number of trees is canonical
 abbrev pub AreCanonicalFormulas : {K : Type 0} {R : K → K → Ordering} → FinMap R Node → Type 0

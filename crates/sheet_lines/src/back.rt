@@ -3,7 +3,7 @@ ghost use Rattle.std.specs.List.{AllByRecursion};
 ghost use Rattle.base_values.specs.declared.EditError.TheVariants.{NoMemory};
 ghost use Rattle.line_edits.specs.Edit.{IsValid};
 ghost use Rattle.line_routes.specs.RouteModel.{route_model};
-ghost use Rattle.sheet_lines.specs.Back.{AreCanonicalLines, LieInside, ArePlacedLines, sheet_back, sheets_back, book_back, book_restored};
+ghost use Rattle.sheet_lines.specs.Back.{AreCanonicalLines, KeptLinesInside, ArePlacedLines, sheet_back, sheets_back, book_back, book_restored};
 ghost use Rattle.sheet_lines.specs.Followed.{route_on};
 ghost use Rattle.sheet_ids.specs.Ids.{sheet_of};
 ghost use Rattle.sheet_lines.specs.Sheets.{IsPlacedSheet, IsPlacedBook};
@@ -64,7 +64,7 @@ fn sheet_back<A: Axis, M: LineMap<A>>(
 ) -> Result<Worksheet, EditError>
     requires placed { IsPlacedSheet sheet.now }
     requires numbers { AreCanonicalLines kept.now }
-    requires inside { LieInside A.along kept.now }
+    requires inside { KeptLinesInside A.along kept.now }
     ensures sheet { IfOk result (λ output. output ≡ sheet_back (route_on (route_model route.now) sheet.now) kept.now sheet.now) }
     ensures only { IsOkUnless result NoMemory }
 {
@@ -72,7 +72,7 @@ fn sheet_back<A: Axis, M: LineMap<A>>(
     let (formulas, id) = (&kept.formulas, sheet.get_sheet_id());
     let (trees, along) = (SheetTrees { formulas, id }, on.route.is_edited);
     let (lost, cells) = (&kept.cells, sheet.cell_map());
-    // For the proof: what lies inside.
+    // For the proof: what is inside.
     is_sound(sheet);
     places_inside(cells);
     let cells = restored_map(alloc, &on.route, along, lost, &trees, cells)?;
@@ -89,7 +89,7 @@ fn sheets_back<A: Axis, M: LineMap<A>>(
 ) -> Result<Items<Worksheet>, EditError>
     requires placed { AllByRecursion IsPlacedSheet sheets.now }
     requires numbers { AreCanonicalLines kept.now }
-    requires inside { LieInside A.along kept.now }
+    requires inside { KeptLinesInside A.along kept.now }
     ensures sheets { IfOk result (λ output. output ≡ sheets_back (route_model route.now) kept.now sheets.now) }
     ensures only { IsOkUnless result NoMemory }
 {
@@ -109,7 +109,7 @@ pub(crate) fn restored_book<A: Axis, M: LineMap<A>>(
 ) -> Result<Workbook, EditError>
     requires placed { IsPlacedBook workbook.now }
     requires numbers { AreCanonicalLines kept.now }
-    requires inside { LieInside A.along kept.now }
+    requires inside { KeptLinesInside A.along kept.now }
     ensures workbook { IfOk result (λ output. output ≡ book_restored (route_model route.now) workbook.now kept.now) }
     ensures only { IsOkUnless result NoMemory }
 {
@@ -120,7 +120,7 @@ pub(crate) fn restored_book<A: Axis, M: LineMap<A>>(
 /// Takes back what `line_edit` did to the lines of the sheet of an id: each place of the sheet goes
 /// back, each formula and each conditional rule follows or is the kept one, and the lost cells, links
 /// and attributes are put back. The keys of what is kept, and the corners of the workbook's formulas,
-/// lie inside the sheet, and the workbook's merges and conditional rules stand inside. A kept
+/// are inside the sheet, and the workbook's merges and conditional rules are inside. A kept
 /// conditional rule behind the last one of the sheet is left out. `NoMemory` is the only error.
 /// docs/MODEL.md has the rules.
 pub fn line_back<A: Axis>(
@@ -134,7 +134,7 @@ pub fn line_back<A: Axis>(
     requires there { IsTrue (is_some (sheet_of workbook.now sheet_id)) }
     requires placed { IsPlacedBook workbook.now }
     requires numbers { AreCanonicalLines kept.now }
-    requires inside { LieInside A.along kept.now }
+    requires inside { KeptLinesInside A.along kept.now }
     ensures workbook { IfOk result (λ output. output ≡ book_back A.along edit.now.kind sheet_id kept.now workbook.now) }
     ensures placed { ArePlacedLines kept.now → IfOk result IsPlacedBook }
     ensures only { IsOkUnless result NoMemory }

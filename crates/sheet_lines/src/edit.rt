@@ -2,7 +2,7 @@ ghost use Rattle.std.specs.Prelude.{◌≡◌, IfOk, IsOkUnless, IsTrue, is_some
 ghost use Rattle.base_values.specs.declared.EditError.TheVariants.{NoMemory};
 ghost use Rattle.line_edits.specs.Edit.{IsValid};
 ghost use Rattle.line_routes.specs.RouteModel.{route_model};
-ghost use Rattle.sheet_lines.specs.Back.{AreCanonicalLines, LieInside};
+ghost use Rattle.sheet_lines.specs.Back.{AreCanonicalLines, KeptLinesInside};
 ghost use Rattle.sheet_lines.specs.Followed.{book_carried, book_followed};
 ghost use Rattle.sheet_lines.specs.Kept.{kept_lines, lines_kept};
 ghost use Rattle.sheet_ids.specs.Ids.{sheet_of};
@@ -28,7 +28,7 @@ pub(crate) fn carried_with_lines<A: Axis, M: LineMap<A>>(
     ensures workbook { IfOk result (λ both. both.0 ≡ book_carried (route_model route.now) workbook.now) }
     ensures kept { IfOk result (λ both. both.1 ≡ lines_kept (route_model route.now) workbook.now) }
     ensures numbers { IfOk result (λ both. AreCanonicalLines both.1) }
-    ensures inside { IfOk result (λ both. LieInside A.along both.1) }
+    ensures inside { IfOk result (λ both. KeptLinesInside A.along both.1) }
     ensures only { IsOkUnless result NoMemory }
 {
     let (sheets, kept) = followed_with_kept(alloc, route, workbook.worksheets())?;
@@ -41,7 +41,7 @@ pub(crate) fn carried_with_lines<A: Axis, M: LineMap<A>>(
 /// Inserts, deletes or moves lines of the sheet of an id. Its cells, links, attributes, merges and
 /// conditional rules go where their lines go, the formulas of all sheets follow, and all else stays.
 /// Returns the workbook, and what taking the lines back does not give (`line_back`). The corners of
-/// the workbook's formulas lie inside the sheet, and its merges and conditional rules stand inside.
+/// the workbook's formulas are inside the sheet, and its merges and conditional rules are inside.
 /// `NoMemory` is the only error. docs/MODEL.md has the rules.
 pub fn line_edit<A: Axis>(
     alloc: Global,
@@ -56,7 +56,7 @@ pub fn line_edit<A: Axis>(
     ensures placed { IfOk result (λ output. IsPlacedBook output.0) }
     ensures kept { IfOk result (λ output. output.1 ≡ kept_lines A.along edit.now.kind sheet_id workbook.now) }
     ensures numbers { IfOk result (λ output. AreCanonicalLines output.1) }
-    ensures inside { IfOk result (λ output. LieInside A.along output.1) }
+    ensures inside { IfOk result (λ output. KeptLinesInside A.along output.1) }
     ensures only { IsOkUnless result NoMemory }
 {
     let opposite = edit.opposite();

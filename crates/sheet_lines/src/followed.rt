@@ -47,7 +47,7 @@ fn followed_sheet<A: Axis, M: LineMap<A>>(
     ensures only { IsOkUnless result NoMemory }
 {
     let (on, cells) = (on_sheet(alloc, route, sheet), sheet.cell_map());
-    // For the proof: what lies inside.
+    // For the proof: what is inside.
     is_sound(sheet);
     places_inside(cells);
     let cells = cells.carry(alloc, &on.route)?;
@@ -94,7 +94,7 @@ fn followed_and_kept<A: Axis, M: LineMap<A>>(
     ensures only { IsOkUnless result NoMemory }
 {
     let (on, cells) = (on_sheet(alloc, route, sheet), sheet.cell_map());
-    // For the proof: the route is a way, and what lies inside.
+    // For the proof: the route is a way, and what is inside.
     route.is_route();
     is_sound(sheet);
     places_inside(cells);
@@ -164,7 +164,7 @@ pub(crate) fn carried_book<A: Axis, M: LineMap<A>>(
 }
 
 /// The workbook whose sheets follow an edit of the sheet of an id, as `line_edit` returns it. The
-/// corners of its formulas lie inside the sheet. `NoMemory` is the only error. docs/MODEL.md has
+/// corners of its formulas are inside the sheet. `NoMemory` is the only error. docs/MODEL.md has
 /// the rules.
 pub fn followed_book<A: Axis>(
     alloc: Global,

@@ -13,7 +13,7 @@ pub fn places_inside<K: MapKey<V>, V>(map: &KeyMap<K, V>)
     let _ = map.iter();
 }
 
-/// What stands inside a sheet is sound.
+/// What is inside a sheet is sound.
 pub(crate) fn is_sound(sheet: &Worksheet)
     requires { IsPlacedSheet sheet.now }
     ensures { IsSoundSheet sheet.now }

@@ -1,7 +1,7 @@
 ghost use Rattle.std.specs.Prelude.{◌≡◌, true, IfOk, IsOkUnless};
 ghost use Rattle.base_values.specs.declared.EditError.TheVariants.{NoMemory};
 ghost use Rattle.line_routes.specs.RouteModel.{route_model};
-ghost use Rattle.sheet_lines.specs.Back.{AreCanonicalLines, LieInside};
+ghost use Rattle.sheet_lines.specs.Back.{AreCanonicalLines, KeptLinesInside};
 ghost use Rattle.sheet_lines.specs.Part.{Part, joined, part_carried, part_kept, part_restored};
 ghost use Rattle.sheet_lines.specs.Workbooks.{IsSoundSheet};
 
@@ -45,7 +45,7 @@ pub(crate) trait SheetPart<A: Axis, M: LineMap<A>> {
     ) -> Result<SheetEntries, EditError>
         requires sound { IsSoundSheet on.now.sheet.now }
         requires numbers { AreCanonicalLines kept.now }
-        requires inside { LieInside A.along kept.now }
+        requires inside { KeptLinesInside A.along kept.now }
         ensures entries { IfOk result (λ output. output ≡ part_restored part (route_model on.now.route) kept.now on.now.sheet.now entries) }
         ensures only { IsOkUnless result NoMemory };
 }

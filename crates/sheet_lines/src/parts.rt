@@ -3,7 +3,7 @@
 ghost use Rattle.std.specs.Prelude.{◌≡◌, IfOk, IsOkUnless};
 ghost use Rattle.base_values.specs.declared.EditError.TheVariants.{NoMemory};
 ghost use Rattle.base_maps.specs.Carried.{lost_map};
-ghost use Rattle.line_map.specs.Attributes.{LinesLie, line_goes, lines_carried, lines_restored};
+ghost use Rattle.line_map.specs.Attributes.{LinesInside, line_goes, lines_carried, lines_restored};
 ghost use Rattle.line_routes.specs.RouteModel.{route_model};
 ghost use Rattle.sheet_grid.specs.contracts.line_attr.LineAttrPartialEq.TheImpl as attribute;
 
@@ -60,7 +60,7 @@ fn lines_with_lost<A: Axis, B: Axis, M: LineMap<A>>(
     on: &OnSheet<'_, A, M>,
     lines: &AxisMap<B, LineAttr>,
 ) -> Result<(AxisMap<B, LineAttr>, NumberMap<LineAttr>), EditError>
-    requires { LinesLie B.along lines.now }
+    requires { LinesInside B.along lines.now }
     ensures lines { IfOk result (λ both. both.0 ≡ lines_carried B.along attribute.ghosts.eq (route_model on.now.route) lines.now) }
     ensures lost { IfOk result (λ both. both.1 ≡ lost_map (line_goes B.along (route_model on.now.route)) lines.now) }
     ensures only { IsOkUnless result NoMemory }
@@ -76,8 +76,8 @@ fn lines_back<A: Axis, B: Axis, M: LineMap<A>>(
     kept: &KeptLines,
     lines: &AxisMap<B, LineAttr>,
 ) -> Result<AxisMap<B, LineAttr>, EditError>
-    requires lie { LinesLie B.along lines.now }
-    requires inside { LinesLie A.along kept.now.lines }
+    requires lie { LinesInside B.along lines.now }
+    requires inside { LinesInside A.along kept.now.lines }
     ensures lines { IfOk result (λ output. output ≡ lines_restored B.along (route_model on.now.route) lines.now kept.now.lines) }
     ensures only { IsOkUnless result NoMemory }
 {
@@ -96,7 +96,7 @@ impl<A: Axis, M: LineMap<A>> SheetPart<A, M> for Lines {
 
     fn carry(on: &OnSheet<'_, A, M>, mut entries: SheetEntries) -> Result<SheetEntries, EditError> {
         let (rows, columns) = (on.sheet.row_map(), on.sheet.column_map());
-        // For the proof: what lies inside.
+        // For the proof: what is inside.
         places_inside(rows);
         places_inside(columns);
         entries.rows = rows.carry(on.alloc, &on.route)?;

@@ -20,12 +20,12 @@ impl<A: Axis> Follower<A> for SheetsById {
     ghost use Rattle.sheet_lines.specs.Back.{book_restored};
     ghost use Rattle.sheet_lines.specs.Followed.{book_carried};
     ghost use Rattle.sheet_lines.specs.Kept.{lines_kept};
-    ghost use Rattle.sheet_lines.specs.Workbooks.{SheetsLie, LinesFit};
+    ghost use Rattle.sheet_lines.specs.Workbooks.{SheetsInside, LinesFit};
     ghost use Rattle.sheet_lines.specs.laws.WorkbookLaws.{book_stays, kept_fits, book_restores};
 
     type Part = KeptLines;
 
-    ghost Lies = { λ w sheets. SheetsLie w sheets.workbook };
+    ghost Inside = { λ w sheets. SheetsInside w sheets.workbook };
 
     ghost carry_of = { λ w sheets. record { workbook = book_carried w sheets.workbook } };
 

@@ -1,4 +1,4 @@
--- Merges that lie inside a sheet, and their anchors.
+-- Merges that are inside a sheet, and their anchors.
 use Rattle.std.proofs.Common.{◌≡◌, ℤ, Bool, true, false, List, [], ◌∷◌, Option, Some, None, cond, refl, ap, sym, subst, ◌∙◌, arith}
 use Rattle.std.specs.Prelude.{Result, Ok, IfSome}
 use Rattle.std.specs.List.{All, find}

@@ -14,9 +14,9 @@ use Rattle.sheet_navigation.specs.declared.direction.NavigationDirection.{Naviga
 use Rattle.sheet_navigation.specs.declared.direction.NavigationDirection.TheVariants.{Left, Right, Up, Down}
 use Rattle.sheet_navigation.specs.Walk.{walk}
 
--- the merges of a sheet lie inside it
-abbrev pub MergesLie : Sheet → Type 0
-MergesLie sheet = All IsInside sheet.merges
+-- the merges of a sheet are inside it
+abbrev pub MergesInside : Sheet → Type 0
+MergesInside sheet = All IsInside sheet.merges
 
 -- the place at the far edge of a merge, on the same row where the direction goes along a row, else in the same column
 unfoldable pub far_edge : NavigationDirection → MergedCell → Position → Position

@@ -3,7 +3,7 @@ ghost use Rattle.base_values.specs.declared.EditError.{EditError};
 ghost use Rattle.base_values.specs.Places.{IsPlace};
 ghost use Rattle.base_axis.specs.Rectangles.{IsInside, holds};
 ghost use Rattle.sheet_navigation.specs.declared.direction.NavigationDirection.{NavigationDirection};
-ghost use Rattle.sheet_navigation.specs.Navigated.{MergesLie, far_edge, walk_start, shows_nothing, first_filled, last_filled, navigated};
+ghost use Rattle.sheet_navigation.specs.Navigated.{MergesInside, far_edge, walk_start, shows_nothing, first_filled, last_filled, navigated};
 ghost use Rattle.sheet_navigation.specs.Walk.{walk};
 
 use crate::direction::NavigationDirection;
@@ -42,7 +42,7 @@ fn far_edge(direction: NavigationDirection, merge: MergedCell, place: Position) 
 
 /// Where the walk from a place begins.
 fn walk_start(sheet: &Worksheet, direction: NavigationDirection, place: Position) -> Position
-    requires merges { MergesLie sheet.now }
+    requires merges { MergesInside sheet.now }
     requires place { IsPlace place }
     ensures value { result ≡ walk_start sheet.now direction place }
     ensures inside { IsPlace result }
@@ -55,7 +55,7 @@ fn walk_start(sheet: &Worksheet, direction: NavigationDirection, place: Position
 
 /// Whether the cell that shows at a place has no content.
 fn shows_nothing(sheet: &Worksheet, place: Position) -> bool
-    requires merges { MergesLie sheet.now }
+    requires merges { MergesInside sheet.now }
     requires place { IsPlace place }
     ensures { result ≡ shows_nothing sheet.now place }
 {
@@ -66,7 +66,7 @@ fn shows_nothing(sheet: &Worksheet, place: Position) -> bool
 
 /// Whether a start shows nothing, or its neighbour.
 fn is_beside_nothing(sheet: &Worksheet, start: Position, next: Position) -> bool
-    requires merges { MergesLie sheet.now }
+    requires merges { MergesInside sheet.now }
     requires start { IsPlace start }
     requires next { IsPlace next }
     ensures { result ≡ (shows_nothing sheet.now start || shows_nothing sheet.now next) }
@@ -76,7 +76,7 @@ fn is_beside_nothing(sheet: &Worksheet, start: Position, next: Position) -> bool
 
 /// The first place behind a start that is not empty, else the last one up to the sheet's edge.
 fn first_filled(sheet: &Worksheet, direction: NavigationDirection, start: Position) -> Position
-    requires merges { MergesLie sheet.now }
+    requires merges { MergesInside sheet.now }
     requires place { IsPlace start }
     ensures { result ≡ first_filled (shows_nothing sheet.now) start (walk direction start) }
 {
@@ -92,7 +92,7 @@ fn first_filled(sheet: &Worksheet, direction: NavigationDirection, start: Positi
 
 /// The last place behind a start before the first empty one.
 fn last_filled(sheet: &Worksheet, direction: NavigationDirection, start: Position) -> Position
-    requires merges { MergesLie sheet.now }
+    requires merges { MergesInside sheet.now }
     requires place { IsPlace start }
     ensures { result ≡ last_filled (shows_nothing sheet.now) start (walk direction start) }
 {
@@ -109,7 +109,7 @@ fn last_filled(sheet: &Worksheet, direction: NavigationDirection, start: Positio
 
 /// Where navigation goes from a place.
 fn navigated(sheet: &Worksheet, direction: NavigationDirection, place: Position) -> Position
-    requires merges { MergesLie sheet.now }
+    requires merges { MergesInside sheet.now }
     requires place { IsPlace place }
     ensures { result ≡ navigated sheet.now direction place }
 {
@@ -126,13 +126,13 @@ fn navigated(sheet: &Worksheet, direction: NavigationDirection, place: Position)
 
 /// Sheets on which a cursor goes from edge to edge.
 pub trait Navigate {
-    /// Its merges lie inside.
-    ghost MergesLie: { Self → Type 0 };
+    /// Its merges are inside.
+    ghost MergesInside: { Self → Type 0 };
 
     ghost navigated_at: { Self → ℤ → ℤ → NavigationDirection → Result (ℤ × ℤ) EditError };
 
     /// The row and the column at which a cursor arrives that goes from a row and a column to the edge
-    /// in a direction. Each call asks that the merges of the sheet lie inside it. It takes no memory.
+    /// in a direction. Each call asks that the merges of the sheet are inside it. It takes no memory.
     ///
     /// From a place of a merge it goes first to the far edge of that merge, and a place is as empty as
     /// the first place of the merge that holds it. From an empty place, or beside an empty
@@ -146,14 +146,14 @@ pub trait Navigate {
         column: i32,
         direction: NavigationDirection,
     ) -> Result<(i32, i32), EditError>
-        requires { MergesLie self.now }
+        requires { MergesInside self.now }
         ensures { result ≡ navigated_at self.now row column direction };
 }
 
 impl Navigate for Worksheet {
     ghost use Rattle.sheet_navigation.specs.Navigated.{navigated_at};
 
-    ghost MergesLie = { MergesLie };
+    ghost MergesInside = { MergesInside };
 
     ghost navigated_at = { navigated_at };
 

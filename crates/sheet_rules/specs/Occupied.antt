@@ -20,15 +20,15 @@ are_apart = are_distinct meets
 abbrev pub meets_any : List MergedCell → MergedCell → Bool
 meets_any others r = list_any (meets r) others
 
--- rule 3: each array lies inside the sheet, and no two of more than one cell meet
+-- rule 3: each array is inside the sheet, and no two of more than one cell meet
 unfoldable pub have_arrays : Sheet → Bool
 have_arrays sheet = list_all is_inside (arrays_of sheet) && are_apart (large_arrays_of sheet)
 
--- it has two cells or more, and lies inside the sheet
+-- it has two cells or more, and is inside the sheet
 abbrev pub is_merge : MergedCell → Bool
 is_merge merge = has_many merge && is_inside merge
 
--- rule 4: each merge has two cells or more and lies inside the sheet, no two meet, and none meets an array of more than one cell
+-- rule 4: each merge has two cells or more and is inside the sheet, no two meet, and none meets an array of more than one cell
 unfoldable pub have_merges : Sheet → Bool
 have_merges sheet = list_all is_merge sheet.merges && are_apart sheet.merges && not (list_any (meets_any sheet.merges) (large_arrays_of sheet))
 

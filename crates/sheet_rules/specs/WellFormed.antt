@@ -29,9 +29,9 @@ unfoldable pub are_sheets : List Sheet → Bool
 are_sheets sheets =
     nat_lt 0 (length sheets) && are_distinct (λ a b. a == b) (ids_of sheets) && list_all is_sheet_name (names_of sheets) && are_distinct same_folded (names_of sheets)
 
--- rule 2: cells, links, rows and columns stand inside the sheet
-unfoldable pub stands_inside : Sheet → Bool
-stands_inside sheet =
+-- rule 2: cells, links, rows and columns are inside the sheet
+unfoldable pub has_keys_inside : Sheet → Bool
+has_keys_inside sheet =
     list_all (λ (entry : Position × Cell). is_place entry.0) (entries sheet.cells) && list_all (λ (entry : Position × Link). is_place entry.0) (entries sheet.links)
     && list_all (λ (entry : ℤ × LineAttr). is_line (pos 1048576) entry.0) (entries sheet.rows) && list_all (λ (entry : ℤ × LineAttr). is_line (pos 16384) entry.0) (entries sheet.columns)
 
@@ -86,7 +86,7 @@ have_attributes sheet =
 abbrev pub are_frozen : Sheet → Bool
 are_frozen sheet = is_count (pos 1048575) sheet.frozen_rows && is_count (pos 16383) sheet.frozen_columns
 
--- rule 9 of the conditional rules of a sheet: each stands on one part at least, and its parts lie inside the sheet
+-- rule 9 of the conditional rules of a sheet: each stands on one part at least, and its parts are inside the sheet
 abbrev pub have_rule_parts : Sheet → Bool
 have_rule_parts sheet = list_all has_parts sheet.formattings
 
@@ -94,7 +94,7 @@ have_rule_parts sheet = list_all has_parts sheet.formattings
 abbrev pub broken_rule : Book → Option ℕ
 broken_rule book =
     if not (are_sheets book.worksheets) then Some 1
-    else if not (list_all stands_inside book.worksheets) then Some 2
+    else if not (list_all has_keys_inside book.worksheets) then Some 2
     else if not (list_all have_arrays book.worksheets) then Some 3
     else if not (list_all have_merges book.worksheets) then Some 4
     else if not (list_all are_hidden_blank book.worksheets) then Some 5

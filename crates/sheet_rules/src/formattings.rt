@@ -17,7 +17,7 @@ pub(crate) fn have_rule_trees(sheet: &Worksheet) -> bool
         .all(|formatting| has_fitting_trees(formatting))
 }
 
-/// Rule 9 of conditional rules: each stands on a part of the sheet, and its parts lie inside.
+/// Rule 9 of conditional rules: each stands on a part of the sheet, and its parts are inside.
 pub(crate) fn have_rule_parts(sheet: &Worksheet) -> bool
     ensures { result ≡ have_rule_parts sheet.now }
 {

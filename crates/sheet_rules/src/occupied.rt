@@ -15,7 +15,7 @@ use cell_content::Content;
 use sheet_grid::{Worksheet, array_at};
 use std::collections::btree_map::Iter;
 
-fn arrays_lie_inside(sheet: &Worksheet) -> bool
+fn are_arrays_inside(sheet: &Worksheet) -> bool
     ensures { result ≡ list_all is_inside (arrays_of sheet.now) }
 {
     sheet
@@ -56,12 +56,12 @@ fn arrays_are_apart(sheet: &Worksheet) -> bool
     true
 }
 
-/// Rule 3: each array lies inside the sheet, and no two of more than one cell meet.
+/// Rule 3: each array is inside the sheet, and no two of more than one cell meet.
 #[tactic(auto, unfolding(crate::specs::Occupied::have_arrays))]
 pub(crate) fn have_arrays(sheet: &Worksheet) -> bool
     ensures { result ≡ have_arrays sheet.now }
 {
-    arrays_lie_inside(sheet) && arrays_are_apart(sheet)
+    are_arrays_inside(sheet) && arrays_are_apart(sheet)
 }
 
 fn is_merge(merge: MergedCell) -> bool
@@ -112,7 +112,7 @@ fn arrays_meet_merges(sheet: &Worksheet) -> bool
     one_meets(sheet.large_arrays(), sheet.merged_cells())
 }
 
-/// Rule 4: each merge has two cells or more and lies inside the sheet, no two meet, and none meets
+/// Rule 4: each merge has two cells or more and is inside the sheet, no two meet, and none meets
 /// an array of more than one cell.
 #[tactic(auto, unfolding(crate::specs::Occupied::have_merges))]
 pub(crate) fn have_merges(sheet: &Worksheet) -> bool

@@ -4,7 +4,7 @@ ghost use Rattle.std.specs.FinMap.{entries};
 ghost use Rattle.base_values.specs.Places.{is_line, is_place};
 ghost use Rattle.sheet_rules.specs.Names.{have_name_trees};
 ghost use Rattle.sheet_rules.specs.Occupied.{have_arrays, have_merges, are_hidden_blank};
-ghost use Rattle.sheet_rules.specs.WellFormed.{are_sheets, stands_inside, have_trees, have_rule_trees, have_attributes, is_count, are_frozen, have_rule_parts, broken_rule};
+ghost use Rattle.sheet_rules.specs.WellFormed.{are_sheets, has_keys_inside, have_trees, have_rule_trees, have_attributes, is_count, are_frozen, have_rule_parts, broken_rule};
 
 use crate::attributes::have_attributes;
 use crate::defined::{are_names, have_name_trees};
@@ -46,10 +46,10 @@ fn are_lines<A: Axis, V>(map: &AxisMap<A, V>) -> bool
     true
 }
 
-/// Rule 2: cells, links, rows and columns stand inside the sheet.
-#[tactic(auto, unfolding(crate::specs::WellFormed::stands_inside))]
-fn stands_inside(sheet: &Worksheet) -> bool
-    ensures { result ≡ stands_inside sheet.now }
+/// Rule 2: cells, links, rows and columns are inside the sheet.
+#[tactic(auto, unfolding(crate::specs::WellFormed::has_keys_inside))]
+fn has_keys_inside(sheet: &Worksheet) -> bool
+    ensures { result ≡ has_keys_inside sheet.now }
 {
     are_places(sheet.cell_map())
         && are_places(sheet.link_map())
@@ -57,10 +57,10 @@ fn stands_inside(sheet: &Worksheet) -> bool
         && are_lines(sheet.column_map())
 }
 
-fn all_stand_inside(sheets: &[Worksheet]) -> bool
-    ensures { result ≡ list_all stands_inside sheets.now }
+fn all_have_keys_inside(sheets: &[Worksheet]) -> bool
+    ensures { result ≡ list_all has_keys_inside sheets.now }
 {
-    sheets.iter().all(stands_inside)
+    sheets.iter().all(has_keys_inside)
 }
 
 fn all_have_arrays(sheets: &[Worksheet]) -> bool
@@ -160,7 +160,7 @@ pub fn broken_rule(workbook: &Workbook) -> Option<u8>
     let sheets = workbook.worksheets();
     if !are_sheets(sheets) {
         Some(1)
-    } else if !all_stand_inside(sheets) {
+    } else if !all_have_keys_inside(sheets) {
         Some(2)
     } else if !all_have_arrays(sheets) {
         Some(3)

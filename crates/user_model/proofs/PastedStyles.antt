@@ -26,7 +26,7 @@ use Rattle.open_book.specs.Sound.{IsSound}
 use Rattle.open_book.specs.Stands.{IsReached, Steps}
 use Rattle.open_book.specs.Views.{seen_by_pasting}
 
--- styles that were pasted lie inside the sheet
+-- styles that were pasted are inside the sheet
 pub pasted_inside : (index : ℕ) (r : MergedCell) (styles : List (List Style)) (w : Book) → IsOk (changed (PasteStyles index r styles) w) → is_inside r ≡ true
 unfolding styles_pasted
 pasted_inside index r styles w is = tiled (is_tile styles) is

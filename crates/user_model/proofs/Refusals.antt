@@ -16,7 +16,7 @@ use Rattle.sheet_lines.specs.declared.KeptLines.{KeptLines}
 use Rattle.sheet_lines.specs.Followed.{book_followed}
 use Rattle.sheet_lines.specs.Back.{book_back}
 use Rattle.book_sheets.specs.declared.KeptSheet.{KeptSheet}
-use Rattle.book_sheets.specs.SheetDiffs.{copied_from, copy_back, copy_forward, deletion_back, deletion_forward, goes_from, may_come, may_come_back, moved_from, new_back, new_forward, sheet_as, sheet_comes, sheet_goes, sheet_lies_inside, sheet_moves, with_sheet_at}
+use Rattle.book_sheets.specs.SheetDiffs.{copied_from, copy_back, copy_forward, deletion_back, deletion_forward, goes_from, may_come, may_come_back, moved_from, new_back, new_forward, sheet_as, sheet_comes, sheet_goes, is_sheet_inside, sheet_moves, with_sheet_at}
 use Rattle.book_names.specs.declared.KeptTrees.{KeptTrees}
 use Rattle.book_names.specs.Renaming.{book_renamed}
 use Rattle.book_names.specs.Renaming.{book_back as named_back}
@@ -106,7 +106,7 @@ copy_back_only at id book = goes_only at (names_left id book.names) book (index_
 deletion_only : (at : ℕ) (kept : KeptSheet) (book : Book) → Only (deletion_forward at kept book)
 unfolding deletion_forward
 deletion_only at kept book =
-    either_only (sheet_lies_inside kept.sheet) (sheet_goes at kept.sheet.id (names_left kept.sheet.id book.names) book) (Err (DiffRefused 0 at))
+    either_only (is_sheet_inside kept.sheet) (sheet_goes at kept.sheet.id (names_left kept.sheet.id book.names) book) (Err (DiffRefused 0 at))
     (goes_only at (names_left kept.sheet.id book.names) book (index_of book kept.sheet.id)) tt
 
 deletion_back_only : (at index : ℕ) (kept : KeptSheet) (book : Book) → Only (deletion_back at index kept book)

@@ -6,7 +6,7 @@ use Rattle.base_values.specs.declared.Position.{Position}
 use Rattle.base_values.specs.Places.{IsLine, IsPlace}
 use Rattle.base_axis.specs.declared.merged_cell.MergedCell.{MergedCell}
 use Rattle.base_axis.specs.Along.{Along, IsAxis, rows, columns}
-use Rattle.base_axis.specs.Rectangles.{last_of, last_row, last_column, anchor_place, stands_inside, is_inside, IsInside, is_between, holds, has_many, overlap, meets, first_line, line_count, last_line, across, line_span, with_lines}
+use Rattle.base_axis.specs.Rectangles.{last_of, last_row, last_column, anchor_place, are_lines_inside, is_inside, IsInside, is_between, holds, has_many, overlap, meets, first_line, line_count, last_line, across, line_span, with_lines}
 
 -- its first cross line, and its last
 abbrev pub first_cross : Along → MergedCell → ℤ
@@ -57,17 +57,17 @@ le m n h = grind (arith, ints)
 le_test : (m n : ℤ) → m ≤ℤ n → int_le m n ≡ true
 le_test m n h = grind (arith, ints)
 
-stands : (last first count : ℤ) → stands_inside last first count ≡ true → (pos 1 ≤ℤ first) × (pos 1 ≤ℤ count) × (last_of first count ≤ℤ last)
+stands : (last first count : ℤ) → are_lines_inside last first count ≡ true → (pos 1 ≤ℤ first) × (pos 1 ≤ℤ count) × (last_of first count ≤ℤ last)
 stands last first count h =
     let p = both (int_le (pos 1) first) (int_le (pos 1) count && int_le (last_of first count) last) h in
     let q = both (int_le (pos 1) count) (int_le (last_of first count) last) p.1 in
     (le (pos 1) first p.0, le (pos 1) count q.0, le (last_of first count) last q.1)
 
--- a rectangle that passes the test lies inside
+-- a rectangle that passes the test is inside
 pub inside_found : (r : MergedCell) → is_inside r ≡ true → IsInside r
 unfolding is_inside
 inside_found r h =
-    let p = both (stands_inside (pos 1048576) r.row r.height) (stands_inside (pos 16384) r.column r.width) h in
+    let p = both (are_lines_inside (pos 1048576) r.row r.height) (are_lines_inside (pos 16384) r.column r.width) h in
     let in_rows = stands (pos 1048576) r.row r.height p.0 in
     let in_columns = stands (pos 16384) r.column r.width p.1 in
     let row_high : r.row ≤ℤ pos 1048576 = omega (arith, ints) in
@@ -81,15 +81,15 @@ inside_found r h =
       last = ((last_row_low, in_rows.2), (last_column_low, in_columns.2));
     }
 
--- one that lies inside passes it
+-- one that is inside passes it
 pub inside_passes : (r : MergedCell) → IsInside r → is_inside r ≡ true
 unfolding is_inside
 inside_passes r h =
-    both_hold (stands_inside (pos 1048576) r.row r.height) (stands_inside (pos 16384) r.column r.width)
+    both_hold (are_lines_inside (pos 1048576) r.row r.height) (are_lines_inside (pos 16384) r.column r.width)
     (standing (pos 1048576) r.row r.height h.first.0.0 h.high h.last.0.1)
     (standing (pos 16384) r.column r.width h.first.1.0 h.wide h.last.1.1)
   where
-    standing : (last first count : ℤ) → pos 1 ≤ℤ first → pos 1 ≤ℤ count → last_of first count ≤ℤ last → stands_inside last first count ≡ true
+    standing : (last first count : ℤ) → pos 1 ≤ℤ first → pos 1 ≤ℤ count → last_of first count ≤ℤ last → are_lines_inside last first count ≡ true
     standing last first count a b c =
         both_hold (int_le (pos 1) first) (int_le (pos 1) count && int_le (last_of first count) last) (le_test (pos 1) first a)
         (both_hold (int_le (pos 1) count) (int_le (last_of first count) last) (le_test (pos 1) count b) (le_test (last_of first count) last c))
@@ -280,7 +280,7 @@ module _ (a : Along) (is : IsAxis a) where
   pub put_lines_twice : (r : MergedCell) (first last m n : ℤ) → with_lines a (with_lines a r first last) m n ≡ with_lines a r m n
   put_lines_twice r first last m n = by_axis (λ a. with_lines a (with_lines a r first last) m n ≡ with_lines a r m n) refl refl a is
 
-  -- the lines of a rectangle inside the sheet lie inside, in order
+  -- the lines of a rectangle inside the sheet are inside, in order
   pub first_inside : (r : MergedCell) → IsInside r → IsLine a.last (first_line a r)
   first_inside r inside = by_axis (λ a. IsLine a.last (first_line a r)) inside.first.0 inside.first.1 a is
 
@@ -297,7 +297,7 @@ module _ (a : Along) (is : IsAxis a) where
   pub across_some : (r : MergedCell) → IsInside r → pos 1 ≤ℤ across a r
   across_some r inside = by_axis (λ a. pos 1 ≤ℤ across a r) inside.wide inside.high a is
 
-  -- a rectangle inside the sheet that gets lines inside, in order, lies inside
+  -- a rectangle inside the sheet that gets lines inside, in order, is inside
   pub put_lines_inside : (r : MergedCell) (first last : ℤ) → IsInside r → IsLine a.last first → IsLine a.last last → first ≤ℤ last → IsInside (with_lines a r first last)
   put_lines_inside r first last inside begins ends order =
       by_axis (λ a. IsLine a.last first → IsLine a.last last → IsInside (with_lines a r first last)) put_rows put_columns a is begins ends

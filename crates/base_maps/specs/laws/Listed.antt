@@ -14,7 +14,7 @@ use Rattle.base_maps.specs.Carried.{Inverse, entry_made, gathered, if_there}
 use Rattle.base_maps.specs.laws.Gathering.{gathered_in_turn}
 use Rattle.base_maps.specs.laws.Turns.{turn_seen, turn_held}
 
--- the entries seen and those left are all, and those seen have made the list, under keys that lie inside
+-- the entries seen and those left are all, and those seen have made the list, under keys that are inside
 pub record Listed {A K X Y : Type 0} {R : K → K → Ordering} (Inside : K → Type 0) (shows : A → K × X) (to : K → Option K) (make : K → K → X → Option Y)
     (m : FinMap R X) (seen : List A) (left : List (K × X)) (output : List (K × Y)) : Type 0 where
   pub all : map shows seen ++ left ≡ entries m
@@ -22,17 +22,17 @@ pub record Listed {A K X Y : Type 0} {R : K → K → Ordering} (Inside : K → 
   pub inside : All (λ (entry : K × Y). Inside entry.0) output
 
 module _ {K X Y : Type 0} (Inside : K → Type 0) (make : K → K → X → Option Y) where
-  abbrev KeyLies : K × Y → Type 0
-  KeyLies entry = Inside entry.0
+  abbrev KeyInside : K × Y → Type 0
+  KeyInside entry = Inside entry.0
 
-  value_inside : (q : K) → Inside q → (y : Option Y) → All KeyLies (cons_option (if_there y (λ y. Some (q, y))) [])
-  value_inside q h None = All-nil KeyLies
-  value_inside q h (Some y) = All-cons KeyLies (q, y) [] h (All-nil KeyLies)
+  value_inside : (q : K) → Inside q → (y : Option Y) → All KeyInside (cons_option (if_there y (λ y. Some (q, y))) [])
+  value_inside q h None = All-nil KeyInside
+  value_inside q h (Some y) = All-cons KeyInside (q, y) [] h (All-nil KeyInside)
 
-  -- an entry that is made lies inside, where the key does that it goes to
+  -- an entry that is made is inside, where the key does that it goes to
   entry_inside : (p : K) (x : X) (t : Option K) → ((q : K) → t ≡ Some q → Inside q) →
-      All KeyLies (cons_option (if_there t (λ q. if_there (make p q x) (λ y. Some (q, y)))) [])
-  entry_inside p x None h = All-nil KeyLies
+      All KeyInside (cons_option (if_there t (λ q. if_there (make p q x) (λ y. Some (q, y)))) [])
+  entry_inside p x None h = All-nil KeyInside
   entry_inside p x (Some q) h = value_inside q (h q refl) (make p q x)
 
 module _ {A K X Y : Type 0} {R : K → K → Ordering} (total : IsTotalOrder R) (exact : CmpEqualImpliesEq R)

@@ -22,13 +22,13 @@ use Rattle.format_rules.specs.declared.CfRule.TheVariants.{Formula, CellIs, Colo
 use Rattle.format_rules.specs.declared.ConditionalFormatting.{ConditionalFormatting}
 use Rattle.format_rules.specs.contracts.formatting.ConditionalFormattingPartialEq.TheImpl as equality
 use Rattle.format_rules.specs.Canonical.{IsCanonicalFormatting, AreCanonicalRules}
-use Rattle.format_rules.specs.Fitting.{place_of, has_parts, tree_fits, has_fitting_trees, StandsInside}
+use Rattle.format_rules.specs.Fitting.{place_of, has_parts, tree_fits, has_fitting_trees, RuleInside}
 use Rattle.format_rules.specs.RuleTrees.{CfvoHas, HasTrees}
 use Rattle.format_rules.specs.laws.FittingLaws.{canonical_still}
 use Rattle.format_rules.specs.laws.RuleEquals.{formatting_equals}
 use Rattle.format_rules.specs.laws.RuleTreeLaws.{changed_have, each_still}
 use Rattle.line_map.specs.Canonical.{AreCanonicalKept}
-use Rattle.line_map.specs.Rules.{RulesLie}
+use Rattle.line_map.specs.Rules.{RulesInside}
 use Rattle.base_maps.specs.laws.ByIndexLaws.{items_regained, kept_are, kept_within, restored_are}
 use Rattle.book_names.specs.Renaming.{formatting_renamed, formattings_renamed, formatting_kept, own_formattings_kept, formattings_back}
 use Rattle.book_names.specs.laws.Cells.{tree_fits as fits_still}
@@ -87,8 +87,8 @@ module _ (reach : Reach) (old new : List ℕ) where
   trees_still formatting =
       each_still (tree_fits (place_of formatting.parts)) (tree_renamed reach old new) (tree_fits_still (place_of formatting.parts)) formatting.rule
 
-  -- it stands inside the sheet
-  pub stands_still : (formatting : ConditionalFormatting) → StandsInside formatting → StandsInside (formatting_renamed reach old new formatting)
+  -- it is inside the sheet
+  pub stands_still : (formatting : ConditionalFormatting) → RuleInside formatting → RuleInside (formatting_renamed reach old new formatting)
   stands_still formatting h = record {
     place = h.place;
     first = h.first;
@@ -120,11 +120,11 @@ module _ (reach : Reach) (old new : List ℕ) where
   pub all_trees_still : (formattings : List ConditionalFormatting) → list_all has_fitting_trees (formattings_renamed reach old new formattings) ≡ list_all has_fitting_trees formattings
   all_trees_still = all_still has_fitting_trees (trees_still reach old new)
 
-  -- they stand inside the sheet
-  pub rules_still : (formattings : List ConditionalFormatting) → RulesLie formattings → RulesLie (formattings_renamed reach old new formattings)
+  -- they are inside the sheet
+  pub rules_still : (formattings : List ConditionalFormatting) → RulesInside formattings → RulesInside (formattings_renamed reach old new formattings)
   rules_still formattings lie =
-      All-map StandsInside (formatting_renamed reach old new) formattings
-      (All-weaker StandsInside (λ formatting. StandsInside (formatting_renamed reach old new formatting)) (stands_still reach old new) formattings lie)
+      All-map RuleInside (formatting_renamed reach old new) formattings
+      (All-weaker RuleInside (λ formatting. RuleInside (formatting_renamed reach old new formatting)) (stands_still reach old new) formattings lie)
 
   -- their numbers are canonical
   pub formattings_numbers : (formattings : List ConditionalFormatting) → AreCanonicalRules formattings → AreCanonicalRules (formattings_renamed reach old new formattings)
@@ -141,12 +141,12 @@ module _ (reach : Reach) (old new : List ℕ) where
         (restored_are (formatting_renamed reach new old) (λ _ own. own) IsCanonicalFormatting IsCanonicalFormatting IsCanonicalFormatting (formatting_numbers reach new old) (λ _ own h. h)
         kept numbers formattings (recursion_from_All IsCanonicalFormatting formattings all))
 
-    pub rules_back_still : ((q : ℕ) → IfSome (kept q) StandsInside) → (formattings : List ConditionalFormatting) → RulesLie formattings
-        → RulesLie (formattings_back reach old new kept formattings)
+    pub rules_back_still : ((q : ℕ) → IfSome (kept q) RuleInside) → (formattings : List ConditionalFormatting) → RulesInside formattings
+        → RulesInside (formattings_back reach old new kept formattings)
     rules_back_still inside formattings lie =
-        All-from_recursion StandsInside (formattings_back reach old new kept formattings)
-        (restored_are (formatting_renamed reach new old) (λ _ own. own) StandsInside StandsInside StandsInside (stands_still reach new old) (λ _ own h. h)
-        kept inside formattings (recursion_from_All StandsInside formattings lie))
+        All-from_recursion RuleInside (formattings_back reach old new kept formattings)
+        (restored_are (formatting_renamed reach new old) (λ _ own. own) RuleInside RuleInside RuleInside (stands_still reach new old) (λ _ own h. h)
+        kept inside formattings (recursion_from_All RuleInside formattings lie))
 
 -- ---- there and back
 

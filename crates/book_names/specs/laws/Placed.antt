@@ -1,4 +1,4 @@
--- Kept trees that stand where they stood are placed, and kept conditional rules stand inside their sheets.
+-- Kept trees that stand where they stood are placed, and kept conditional rules are inside their sheets.
 use Rattle.std.proofs.Common.{◌≡◌, ℕ, true, Option, Some, None}
 use Rattle.std.specs.FinMap.{FinMap, get}
 use Rattle.base_values.specs.declared.Position.{Position}
@@ -9,8 +9,8 @@ use Rattle.formula_tree.specs.declared.Node.{Node}
 use Rattle.formula_tree.specs.Placed.{is_placed}
 use Rattle.cell_content.specs.Fitting.{tree_fits_at}
 use Rattle.format_rules.specs.declared.ConditionalFormatting.{ConditionalFormatting}
-use Rattle.format_rules.specs.Fitting.{StandsInside}
-use Rattle.format_rules.specs.laws.FittingLaws.{stands_inside}
+use Rattle.format_rules.specs.Fitting.{RuleInside}
+use Rattle.format_rules.specs.laws.FittingLaws.{rule_inside}
 use Rattle.base_maps.specs.declared.SheetIndex.{SheetIndex}
 use Rattle.base_maps.specs.SheetIndexes.{sheet_index_cmp}
 use Rattle.base_maps.specs.laws.SheetIndexes.{sheet_index_total, exact_sheet_indexes}
@@ -39,13 +39,13 @@ module _ (seek : Sheet → Position → Option Position) where
       (entry_holds sheet_place_cmp sheet_place_total exact_sheet_places
       (λ (entry : SheetPlace × Node). tree_stands seek (sheet_of book entry.0.sheet) entry.0.place entry.1) formulas stand key tree found))
 
-inside_at : (o : Option Sheet) (index : ℕ) (formatting : ConditionalFormatting) → formatting_stands o index formatting ≡ true → StandsInside formatting
+inside_at : (o : Option Sheet) (index : ℕ) (formatting : ConditionalFormatting) → formatting_stands o index formatting ≡ true → RuleInside formatting
 unfolding formatting_stands
 inside_at None index formatting stands = absurd (cc)
-inside_at (Some sheet) index formatting stands = let outer = both _ _ stands in stands_inside formatting (both _ _ outer.0).1 outer.1
+inside_at (Some sheet) index formatting stands = let outer = both _ _ stands in rule_inside formatting (both _ _ outer.0).1 outer.1
 
 inside_where_stands : (kept : KeptTrees) (book : Book) → formattings_stand kept.formattings book ≡ true → (key : SheetIndex) (formatting : ConditionalFormatting)
-    → get kept.formattings key ≡ Some formatting → StandsInside formatting
+    → get kept.formattings key ≡ Some formatting → RuleInside formatting
 unfolding formattings_stand
 inside_where_stands kept book stand key formatting found =
     inside_at (sheet_of book key.sheet) key.index formatting

@@ -1,4 +1,4 @@
--- A sheet whose trees are renamed keeps the rules of a sheet, its formulas stay placed, and its conditional rules stand inside.
+-- A sheet whose trees are renamed keeps the rules of a sheet, its formulas stay placed, and its conditional rules are inside.
 use Rattle.std.proofs.Common.{◌≡◌, ℕ, ℤ, pos, Bool, true, not, ◌&&◌, ◌||◌, List, [], ◌∷◌, map, Option, Some, None, refl, ap, subst, ◌∙◌}
 use Rattle.std.specs.Prelude.{◌==◌, IfSome, if◌then◌else◌}
 use Rattle.std.specs.List.{AllByRecursion, filter_map, list_all, list_any}
@@ -19,7 +19,7 @@ use Rattle.formula_names.specs.Renamed.{naming, tree_renamed}
 use Rattle.formula_names.specs.laws.NamedLaws.{placed-named}
 use Rattle.cell_content.specs.Fitting.{fits_at}
 use Rattle.cell_content.specs.laws.ChangedLaws.{changed_tree}
-use Rattle.format_rules.specs.Fitting.{StandsInside}
+use Rattle.format_rules.specs.Fitting.{RuleInside}
 use Rattle.base_maps.specs.TaggedIndexes.{index_on}
 use Rattle.sheet_grid.specs.Arrays.{array_at, arrays_of, where_large, large_array_at, large_arrays_of}
 use Rattle.sheet_grid.specs.declared.Cell.{Cell}
@@ -29,7 +29,7 @@ use Rattle.sheet_grid.specs.Merges.{is_empty}
 use Rattle.sheet_grid.specs.laws.ChangedShapes.{array_changed, empty_changed}
 use Rattle.sheet_grid.specs.Sheet.{Sheet}
 use Rattle.sheet_rules.specs.Occupied.{are_apart, meets_any, have_arrays, is_merge, have_merges, covers, covers_blanks, are_hidden_blank}
-use Rattle.sheet_rules.specs.WellFormed.{stands_inside, have_trees, have_attributes, is_row, is_column, has_font}
+use Rattle.sheet_rules.specs.WellFormed.{has_keys_inside, have_trees, have_attributes, is_row, is_column, has_font}
 use Rattle.sheet_lines.specs.Sheets.{IsPlacedCell, IsPlacedSheet}
 use Rattle.sheet_lines.specs.laws.Stays.{places_stay}
 use Rattle.book_sheets.specs.laws.SheetRules.{KeepsSheetRules}
@@ -72,8 +72,8 @@ module _ (reach : Reach) (name old new : List ℕ) (sheet : Sheet) where
   same_blanks : (r : MergedCell) → covers_blanks later r ≡ covers_blanks sheet r
   same_blanks r = cells_pass (λ entry. is_empty entry.1.content || not (covers r entry.0)) (λ entry. ap (λ b. b || not (covers r entry.0)) (empty_changed (tree_renamed reach old new) entry.1.content))
 
-  inside_same : stands_inside later ≡ stands_inside sheet
-  unfolding stands_inside
+  inside_same : has_keys_inside later ≡ has_keys_inside sheet
+  unfolding has_keys_inside
   inside_same = λ i.
       cells_pass (λ entry. is_place entry.0) (λ entry. refl) i && list_all (λ (entry : Position × Link). is_place entry.0) (entries sheet.links)
       && list_all (λ (entry : ℤ × LineAttr). is_line (pos 1048576) entry.0) (entries sheet.rows) && list_all (λ (entry : ℤ × LineAttr). is_line (pos 16384) entry.0) (entries sheet.columns)
@@ -165,7 +165,7 @@ sheet_placed_back reach name old new kept trees sheet h =
           placed_back reach old new q (parts q) cell (holds_of (IsPlacedTree q) (parts q) (λ tree. trees.formulas (place_on sheet.id q) tree)) (subst (λ k. IsPlacedCell k cell) same (h.cells p cell held))));
       merges = h.merges;
       formattings = rules_back_still reach old new (formattings_under kept sheet.id)
-          (λ q. holds_of StandsInside (formattings_under kept sheet.id q) (λ formatting. trees.formattings (index_on sheet.id q) formatting)) sheet.formattings h.formattings;
+          (λ q. holds_of RuleInside (formattings_under kept sheet.id q) (λ formatting. trees.formattings (index_on sheet.id q) formatting)) sheet.formattings h.formattings;
     }
 
 -- so does one that is taken back, where the kept trees are placed

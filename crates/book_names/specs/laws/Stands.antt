@@ -36,7 +36,7 @@ use Rattle.sheet_grid.specs.Sheet.{Sheet}
 use Rattle.sheet_grid.specs.Book.{Book}
 use Rattle.sheet_grid.specs.laws.FittingCells.{entry_fits_at, CellsFit}
 use Rattle.sheet_rules.specs.Names.{first_place, have_name_trees}
-use Rattle.sheet_rules.specs.WellFormed.{stands_inside, IsWellFormed}
+use Rattle.sheet_rules.specs.WellFormed.{has_keys_inside, IsWellFormed}
 use Rattle.sheet_rules.specs.laws.EntryLaws.{both}
 use Rattle.sheet_rules.specs.laws.WellFormedLaws.{well_formed_parts, cells_fit_from_trees, distinct_ids_from_well_formed}
 use Rattle.sheet_ids.specs.Ids.{sheet_of}
@@ -44,7 +44,7 @@ use Rattle.book_sheets.specs.laws.SheetRules.{KeepsSheetRules, all_keep}
 use Rattle.book_names.specs.declared.kept_trees.KeptTrees.{KeptTrees}
 use Rattle.book_names.specs.Renaming.{cell_renamed, cells_renamed, defined_renamed, sheet_renamed, book_renamed, cell_kept, formulas_kept, everywhere, defined_kept, names_kept, trees_kept, book_back}
 use Rattle.book_names.specs.Renaming.{formattings_renamed, own_formattings_kept, formattings_kept}
-use Rattle.book_names.specs.RenameDiffs.{stand_on_places, stand_on_parts, lie_in_sheets, is_formula, is_formula_at, own_place, tree_stands, formulas_stand}
+use Rattle.book_names.specs.RenameDiffs.{stand_on_places, stand_on_parts, are_in_sheets, is_formula, is_formula_at, own_place, tree_stands, formulas_stand}
 use Rattle.book_names.specs.RenameDiffs.{names_stand, formatting_stands, formattings_stand, goes_forward, goes_back, rename_forward, rename_back}
 use Rattle.book_names.specs.laws.Cells.{kept_is, still_formula}
 use Rattle.book_names.specs.laws.Entries.{all_entries, entry_holds, found_same, get_changed}
@@ -105,8 +105,8 @@ module _ (book : Book) where
         let fits : CellsFit it.of = cells_fit_from_trees it.of (sheet_rules key.sheet it.of it.found).trees in
         sym (ap (λ o. option_map_or (tree_fits_at key.place) o true) it.is_it) ∙ sym (ap (entry_fits_at key.place) it.stands) ∙ fits key.place
 
-    cells_inside : (s : Sheet) → stands_inside s ≡ true → list_all (λ (entry : Position × Cell). is_place entry.0) (entries s.cells) ≡ true
-    unfolding stands_inside
+    cells_inside : (s : Sheet) → has_keys_inside s ≡ true → list_all (λ (entry : Position × Cell). is_place entry.0) (entries s.cells) ≡ true
+    unfolding has_keys_inside
     cells_inside s inside = (both _ _ (both _ _ (both _ _ inside).0).0).0
 
     module _ (formulas : FinMap sheet_place_cmp Node) (of_cell : (key : SheetPlace) (tree : Node) → get formulas key ≡ Some tree → IsOfCell key tree) where
@@ -189,7 +189,7 @@ module _ (there back : ℕ → Reach) (old new : List ℕ) (book : Book) (rules 
   kept_formatting key formatting h =
       of_list key formatting (sheet_of book key.sheet) refl (sym (formattings_at there back old new book (distinct_ids_from_well_formed book rules) key.sheet key.index) ∙ h)
 
-  -- it has parts, which lie inside the sheet
+  -- it has parts, which are inside the sheet
   kept_has_parts : (key : SheetIndex) (formatting : ConditionalFormatting) → IsOfList key formatting → has_parts formatting ≡ true
   kept_has_parts key formatting it =
       own_kept_passes (there it.of.id) (back it.of.id) old new has_parts it.of.formattings
@@ -261,7 +261,7 @@ module _ (id : ℕ) (new : List ℕ) (book : Book) (rules : IsWellFormed book) (
   abbrev later : Book
   later = book_renamed id old new book
 
-  in_sheets : lie_in_sheets kept ≡ true
+  in_sheets : are_in_sheets kept ≡ true
   in_sheets = λ i. kept_on_places everywhere everywhere old new book rules i && kept_on_parts everywhere everywhere old new book rules i
 
   laters : (n : ℕ) (s : Sheet) → sheet_of book n ≡ Some s → HasLater old new later n s

@@ -24,7 +24,7 @@ use Rattle.sheet_rules.specs.laws.EntryLaws.{both}
 use Rattle.sheet_rules.specs.laws.WellFormedLaws.{well_formed_parts, distinct_ids_from_well_formed}
 use Rattle.sheet_rules.specs.laws.OccupiedLaws.{keeps_merges}
 use Rattle.sheet_ids.specs.Ids.{sheet_of}
-use Rattle.book_sheets.specs.SheetDiffs.{with_sheet_at, without_sheet_at, sheet_comes, sheet_goes, sheet_as, copied_from, kept_of, lies_inside, sheet_lies_inside, cells_fit, are_places, names_fit, may_come_back, new_forward, new_back, copy_forward, copy_back, deletion_forward, deletion_back, sheet_moves}
+use Rattle.book_sheets.specs.SheetDiffs.{with_sheet_at, without_sheet_at, sheet_comes, sheet_goes, sheet_as, copied_from, kept_of, is_inside_if_any, is_sheet_inside, cells_fit, are_places, names_fit, may_come_back, new_forward, new_back, copy_forward, copy_back, deletion_forward, deletion_back, sheet_moves}
 use Rattle.book_sheets.specs.laws.SheetRules.{KeepsSheetRules, rules_at}
 pub use Rattle.book_sheets.specs.Ways.{LeadsBothWays}
 use Rattle.book_sheets.specs.laws.LaterNames.{named_parts, none_scoped}
@@ -59,21 +59,21 @@ copy_both_ways at id index from name source w rules found free within =
 
 -- ---- a deleted sheet
 
--- arrays lie inside where each that there is does
-arrays_listed : (es : List (Position × Cell)) → list_all is_inside (filter_map (λ (entry : Position × Cell). array_at entry.0 entry.1.content) es) ≡ list_all (λ (entry : Position × Cell). lies_inside (array_at entry.0 entry.1.content)) es
+-- arrays are inside where each that there is does
+arrays_listed : (es : List (Position × Cell)) → list_all is_inside (filter_map (λ (entry : Position × Cell). array_at entry.0 entry.1.content) es) ≡ list_all (λ (entry : Position × Cell). is_inside_if_any (array_at entry.0 entry.1.content)) es
 arrays_listed [] = refl
 arrays_listed (e ∷ es) =
     let rest = arrays_listed es in
-    elim (array_at e.0 e.1.content) as (λ o. list_all is_inside (cons_option o (filter_map (λ (entry : Position × Cell). array_at entry.0 entry.1.content) es)) ≡ (lies_inside o && list_all (λ (entry : Position × Cell). lies_inside (array_at entry.0 entry.1.content)) es))
+    elim (array_at e.0 e.1.content) as (λ o. list_all is_inside (cons_option o (filter_map (λ (entry : Position × Cell). array_at entry.0 entry.1.content) es)) ≡ (is_inside_if_any o && list_all (λ (entry : Position × Cell). is_inside_if_any (array_at entry.0 entry.1.content)) es))
     [ None ↦ rest | Some r ↦ ap (λ b. is_inside r && b) rest ]
 
 merge_inside : (merge : MergedCell) → is_merge merge ≡ true → is_inside merge ≡ true
 merge_inside merge h = (both _ _ h).1
 
--- arrays, merges and parts of conditional rules of a sheet that keeps its rules lie inside
-pub lies_inside_by_rules : (s : Sheet) → KeepsSheetRules s → sheet_lies_inside s ≡ true
-unfolding sheet_lies_inside have_arrays
-lies_inside_by_rules s h =
+-- arrays, merges and parts of conditional rules of a sheet that keeps its rules are inside
+pub inside_by_rules : (s : Sheet) → KeepsSheetRules s → is_sheet_inside s ≡ true
+unfolding is_sheet_inside have_arrays
+inside_by_rules s h =
     let arrays = sym (arrays_listed (entries s.cells)) ∙ (both _ _ h.arrays).0 in
     let merges = all_others is_merge is_inside s.merges merge_inside (keeps_merges s h.merges).merges in
     λ i. arrays i && merges i && h.rule_parts i
@@ -125,7 +125,7 @@ module _ (sheet : Sheet) (names : List DefinedName) where
   -- what is kept of a sheet may come back among the names that are left
   may_return : KeepsSheetRules sheet → have_name_trees names ≡ true → may_come_back (length (names_left sheet.id names)) (kept_of sheet names) ≡ true
   unfolding may_come_back
-  may_return h trees = λ i. lies_inside_by_rules sheet h i && cells_fit_by_rules sheet h i && h.rule_trees i && (kept_have_places i && kept_fit trees i)
+  may_return h trees = λ i. inside_by_rules sheet h i && cells_fit_by_rules sheet h i && h.rule_trees i && (kept_have_places i && kept_fit trees i)
 
 pub deletion_both_ways : (at index : ℕ) (sheet : Sheet) (w : Book) → IsWellFormed w → slice_get w.worksheets index ≡ Some sheet
     → LeadsBothWays (deletion_forward at (kept_of sheet w.names)) (deletion_back at index (kept_of sheet w.names)) w (without_sheet_at index (names_left sheet.id w.names) w)
@@ -138,7 +138,7 @@ deletion_both_ways at index sheet w rules found =
     let later : Book = without_sheet_at index left w in
     let refusal : Result Book EditError = Err (DiffRefused 0 at) in
     record {
-      forth = ap (λ b. cond b (sheet_goes at sheet.id left w) refusal) (lies_inside_by_rules sheet h) ∙ goes w own index sheet found at left;
+      forth = ap (λ b. cond b (sheet_goes at sheet.id left w) refusal) (inside_by_rules sheet h) ∙ goes w own index sheet found at left;
       back = ap (λ b. cond b (sheet_comes at index sheet all later) refusal) (may_return sheet w.names h (well_formed_parts w rules).name_trees)
           ∙ goes_and_comes w own index sheet found at left all (names_come_back sheet.id w.names);
     }

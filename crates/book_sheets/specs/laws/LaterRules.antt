@@ -15,7 +15,7 @@ use Rattle.sheet_rules.specs.Distinct.{are_distinct}
 use Rattle.sheet_rules.specs.Names.{are_names, have_name_trees}
 use Rattle.sheet_rules.specs.Occupied.{have_arrays, have_merges, are_hidden_blank}
 use Rattle.sheet_rules.specs.SheetNames.{is_sheet_name}
-use Rattle.sheet_rules.specs.WellFormed.{are_sheets, stands_inside, have_trees, have_attributes, IsWellFormed}
+use Rattle.sheet_rules.specs.WellFormed.{are_sheets, has_keys_inside, have_trees, have_attributes, IsWellFormed}
 use Rattle.sheet_rules.specs.laws.EntryLaws.{both}
 use Rattle.sheet_rules.specs.laws.WellFormedLaws.{well_formed_parts, well_formed-new}
 use Rattle.book_sheets.specs.SheetDiffs.{with_sheet_at, without_sheet_at, sheet_as}
@@ -96,7 +96,7 @@ apart_without sheets index h = record {
 -- ---- the rules of one sheet
 
 rules_as : (id : ℕ) (name : List ℕ) (s : Sheet) → KeepsSheetRules s → KeepsSheetRules (sheet_as id name s)
-unfolding stands_inside have_arrays have_merges are_hidden_blank have_trees have_attributes
+unfolding has_keys_inside have_arrays have_merges are_hidden_blank have_trees have_attributes
 rules_as id name s h = record {
   inside = h.inside;
   arrays = h.arrays;

@@ -1,4 +1,4 @@
--- Corners of formulas, and merges, lie inside, and conditional rules stand inside: of what fits and lies inside, and after sheets came, went
+-- Corners of formulas, and merges, are inside, and conditional rules are inside: of what fits and is inside, and after sheets came, went
 -- and moved.
 use Rattle.std.proofs.Common.{◌≡◌, ℕ, zero, suc, Bool, true, false, cond, List, [], ◌∷◌, Option, Some, None, Result, Ok, Err, refl, ap, sym, subst, ◌∙◌}
 use Rattle.std.specs.Prelude.{IfSome, OnOk, slice_get}
@@ -20,7 +20,7 @@ use Rattle.formula_tree.specs.Placed.{is_placed}
 use Rattle.cell_content.specs.Fitting.{tree_fits_at}
 use Rattle.cell_content.specs.Lens.{tree_of}
 use Rattle.defined_names.specs.declared.DefinedName.{DefinedName}
-use Rattle.line_routes.specs.Merges.{MergesLie}
+use Rattle.line_routes.specs.Merges.{MergesInside}
 use Rattle.sheet_grid.specs.declared.Cell.{Cell}
 use Rattle.sheet_grid.specs.laws.FittingCells.{entry_fits_at}
 use Rattle.sheet_grid.specs.Sheet.{Sheet, new_sheet}
@@ -29,7 +29,7 @@ use Rattle.sheet_rules.specs.laws.EntryLaws.{both, passes_at_from_all}
 use Rattle.sheet_rules.specs.laws.FormattingLaws.{rules_stand_inside}
 use Rattle.sheet_lines.specs.Sheets.{IsPlacedCell, IsPlacedSheet, IsPlacedBook}
 use Rattle.book_sheets.specs.declared.kept_sheet.KeptSheet.{KeptSheet}
-use Rattle.book_sheets.specs.SheetDiffs.{may_come, with_sheet_at, sheet_comes, without_sheet_at, goes_from, sheet_goes, sheet_as, sheet_lies_inside, cells_fit, may_come_back, moved_from}
+use Rattle.book_sheets.specs.SheetDiffs.{may_come, with_sheet_at, sheet_comes, without_sheet_at, goes_from, sheet_goes, sheet_as, is_sheet_inside, cells_fit, may_come_back, moved_from}
 
 -- ---- one sheet
 
@@ -51,8 +51,8 @@ each_inside [] all = tt
 each_inside (merge ∷ merges) all = let parts = both (is_inside merge) (list_all is_inside merges) all in (inside_found merge parts.0, each_inside merges parts.1)
 
 -- merges that pass the test
-pub merges_lie : (merges : List MergedCell) → list_all is_inside merges ≡ true → MergesLie merges
-merges_lie merges all = All-from_recursion IsInside merges (each_inside merges all)
+pub merges_are_inside : (merges : List MergedCell) → list_all is_inside merges ≡ true → MergesInside merges
+merges_are_inside merges all = All-from_recursion IsInside merges (each_inside merges all)
 
 -- a new sheet has no formula, no merge and no conditional rule
 pub placed_new : (id : ℕ) (name : List ℕ) → IsPlacedSheet (new_sheet id name)
@@ -68,7 +68,7 @@ placed_copy id name sheet placed = record { cells = placed.cells; merges = place
 
 -- so it is for a kept sheet that may come back
 pub placed_kept : (count : ℕ) (kept : KeptSheet) → may_come_back count kept ≡ true → IsPlacedSheet kept.sheet
-unfolding may_come_back sheet_lies_inside cells_fit
+unfolding may_come_back is_sheet_inside cells_fit
 placed_kept count kept may =
     let first = both _ _ may in
     let trees_may = both _ _ first.0 in
@@ -77,7 +77,7 @@ placed_kept count kept may =
     let fits = passes_at_from_all position_cmp position_total exact_positions entry_fits_at (λ _. refl) kept.sheet.cells sheet_may.1 in
     record {
       cells = λ place cell found. placed_cell place cell (sym (ap (entry_fits_at place) found) ∙ fits place);
-      merges = merges_lie kept.sheet.merges (both _ _ lies.0).1;
+      merges = merges_are_inside kept.sheet.merges (both _ _ lies.0).1;
       formattings = rules_stand_inside kept.sheet trees_may.1 lies.1;
     }
 

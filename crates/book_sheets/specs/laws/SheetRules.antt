@@ -6,13 +6,13 @@ use Rattle.sheet_grid.specs.Sheet.{Sheet}
 use Rattle.sheet_grid.specs.Book.{Book}
 use Rattle.sheet_rules.specs.Names.{are_names, have_name_trees}
 use Rattle.sheet_rules.specs.Occupied.{have_arrays, have_merges, are_hidden_blank}
-use Rattle.sheet_rules.specs.WellFormed.{are_sheets, ids_of, stands_inside, have_trees, have_rule_trees, have_attributes, are_frozen, have_rule_parts, IsWellFormed}
+use Rattle.sheet_rules.specs.WellFormed.{are_sheets, ids_of, has_keys_inside, have_trees, have_rule_trees, have_attributes, are_frozen, have_rule_parts, IsWellFormed}
 use Rattle.sheet_rules.specs.laws.EntryLaws.{both}
 use Rattle.sheet_rules.specs.laws.WellFormedLaws.{well_formed_parts, well_formed_from_parts}
 use Rattle.book_sheets.specs.laws.Placed.{all_got}
 
 pub record KeepsSheetRules (s : Sheet) : Type 0 where
-  pub inside : stands_inside s ≡ true
+  pub inside : has_keys_inside s ≡ true
   pub arrays : have_arrays s ≡ true
   pub merges : have_merges s ≡ true
   pub hidden : are_hidden_blank s ≡ true
@@ -22,12 +22,12 @@ pub record KeepsSheetRules (s : Sheet) : Type 0 where
   pub frozen : are_frozen s ≡ true
   pub rule_parts : have_rule_parts s ≡ true
 
-each_keeps : (ss : List Sheet) → list_all stands_inside ss ≡ true → list_all have_arrays ss ≡ true → list_all have_merges ss ≡ true → list_all are_hidden_blank ss ≡ true
+each_keeps : (ss : List Sheet) → list_all has_keys_inside ss ≡ true → list_all have_arrays ss ≡ true → list_all have_merges ss ≡ true → list_all are_hidden_blank ss ≡ true
     → list_all have_trees ss ≡ true → list_all have_rule_trees ss ≡ true → list_all have_attributes ss ≡ true → list_all are_frozen ss ≡ true → list_all have_rule_parts ss ≡ true
     → AllByRecursion KeepsSheetRules ss
 each_keeps [] inside arrays merges hidden trees rule_trees attributes frozen rule_parts = tt
 each_keeps (s ∷ ss) inside arrays merges hidden trees rule_trees attributes frozen rule_parts =
-    let i = both (stands_inside s) (list_all stands_inside ss) inside in
+    let i = both (has_keys_inside s) (list_all has_keys_inside ss) inside in
     let a = both (have_arrays s) (list_all have_arrays ss) arrays in
     let m = both (have_merges s) (list_all have_merges ss) merges in
     let h = both (are_hidden_blank s) (list_all are_hidden_blank ss) hidden in
@@ -60,7 +60,7 @@ well_formed_by w sheets all name_trees names =
     well_formed_from_parts w
     (record {
       sheets = sheets;
-      inside = all_pass stands_inside (λ s h. h.inside) w.worksheets all;
+      inside = all_pass has_keys_inside (λ s h. h.inside) w.worksheets all;
       arrays = all_pass have_arrays (λ s h. h.arrays) w.worksheets all;
       merges = all_pass have_merges (λ s h. h.merges) w.worksheets all;
       hidden = all_pass are_hidden_blank (λ s h. h.hidden) w.worksheets all;

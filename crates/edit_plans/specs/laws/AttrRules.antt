@@ -14,7 +14,7 @@ use Rattle.sheet_grid.specs.declared.LineAttr.{LineAttr}
 use Rattle.sheet_grid.specs.Lines.{actual_size, attr_of, is_plain, own_width, size_of, usual_height, usual_width}
 use Rattle.sheet_grid.specs.Sheet.{Sheet}
 use Rattle.sheet_rules.specs.Occupied.{have_arrays, have_merges, are_hidden_blank}
-use Rattle.sheet_rules.specs.WellFormed.{stands_inside, have_trees, have_attributes, is_size, is_width, is_row_style, is_column_style, is_row, is_column}
+use Rattle.sheet_rules.specs.WellFormed.{has_keys_inside, have_trees, have_attributes, is_size, is_width, is_row_style, is_column_style, is_row, is_column}
 use Rattle.sheet_rules.specs.laws.EntryLaws.{both}
 use Rattle.line_sizes.specs.declared.LineChange.{LineChange}
 use Rattle.line_sizes.specs.declared.LineChange.TheVariants.{Size, Hidden}
@@ -132,7 +132,7 @@ own_of axis entry attr own is = sym (ap (own_entry axis) is) ∙ own
 pub attr-put : (s : Sheet) (id : ℕ) (axis : LineAxis) (line : ℤ) (entry : Option LineAttr) → is_line (along_of axis).last line ≡ true → own_entry axis entry
     ≡ true
     → KeepsSheetRules s → KeepsSheetRules (with_sheet_entry (AttrKey id axis line) (AttrValue entry) s)
-unfolding stands_inside have_arrays have_merges are_hidden_blank have_trees have_attributes
+unfolding has_keys_inside have_arrays have_merges are_hidden_blank have_trees have_attributes
 attr-put s id Rows line entry inside own h =
     let outer = both _ _ h.inside in
     let middle = both _ _ outer.0 in

@@ -20,7 +20,7 @@ use Rattle.sheet_grid.specs.Merges.{is_empty}
 use Rattle.sheet_grid.specs.Sheet.{Sheet}
 use Rattle.sheet_rules.specs.Occupied.{meets_any, have_arrays, have_merges, covers, are_hidden_blank}
 use Rattle.sheet_rules.specs.laws.ArraysIn.{array_in, large_array_in}
-use Rattle.sheet_rules.specs.WellFormed.{stands_inside, have_trees, has_font, have_attributes}
+use Rattle.sheet_rules.specs.WellFormed.{has_keys_inside, have_trees, has_font, have_attributes}
 use Rattle.sheet_rules.specs.laws.EntryLaws.{both}
 use Rattle.sheet_rules.specs.laws.OccupiedLaws.{keeps_arrays, have_arrays_from, keeps_merges, have_merges_from, keeps_hidden, are_hidden_blank_from}
 use Rattle.sheet_rules.specs.laws.ShownLaws.{no_value, all_pass, none_in}
@@ -254,8 +254,8 @@ module _ (r : MergedCell) (sheet : Sheet) where
       let it = was r sheet.cells place cell found in
       entry_holds position_cmp position_total exact_positions (λ (e : Position × Cell). is_place e.0) sheet.cells h place it.old it.found)
 
-  inside_stay : stands_inside sheet ≡ true → stands_inside next ≡ true
-  unfolding stands_inside
+  inside_stay : has_keys_inside sheet ≡ true → has_keys_inside next ≡ true
+  unfolding has_keys_inside
   inside_stay h =
       let outer = both _ _ h in
       let middle = both _ _ outer.0 in

@@ -14,7 +14,7 @@ use Rattle.base_values.specs.Places.{IsLine, IsPlace, is_line, position_cmp, sam
 use Rattle.base_values.specs.laws.Places.{position_total, exact_positions}
 use Rattle.base_axis.specs.declared.MergedCell.{MergedCell}
 use Rattle.base_axis.specs.Along.{Along, IsAxis}
-use Rattle.base_axis.specs.Rectangles.{anchor_place, has_many, holds, is_inside, lies_within, meets}
+use Rattle.base_axis.specs.Rectangles.{anchor_place, has_many, holds, is_inside, is_inside_of, meets}
 use Rattle.base_axis.specs.laws.RectangleLaws.{held_inside, holds_anchor, inside_found, inside_passes, shared_meets}
 use Rattle.base_tables.specs.declared.Language.{Language}
 use Rattle.base_tables.specs.declared.Locale.{Locale}
@@ -31,7 +31,7 @@ use Rattle.sheet_grid.specs.laws.FittingCells.{entry_fits_at}
 use Rattle.sheet_grid.specs.Merges.{is_empty}
 use Rattle.sheet_grid.specs.Sheet.{Sheet}
 use Rattle.sheet_rules.specs.Occupied.{are_apart, are_hidden_blank, covers, have_arrays, have_merges, is_merge, meets_any}
-use Rattle.sheet_rules.specs.WellFormed.{has_font, have_attributes, have_trees, is_column, is_row, stands_inside}
+use Rattle.sheet_rules.specs.WellFormed.{has_font, have_attributes, have_trees, is_column, is_row, has_keys_inside}
 use Rattle.sheet_rules.specs.laws.ArraysIn.{array_in, large_array_in}
 use Rattle.sheet_rules.specs.laws.EntryLaws.{both}
 use Rattle.sheet_rules.specs.laws.HiddenLaws.{covered_by_one}
@@ -50,7 +50,7 @@ use Rattle.sheet_fill.specs.laws.TileLaws.{begins_back, held_back, held_wider, m
 use Rattle.sheet_history.specs.laws.Entries.{all_entries, entry_holds}
 use Rattle.sheet_history.specs.laws.RuleLaws.{KeepsSheetRules}
 use Rattle.book_sheets.specs.laws.ListTests.{distinct_joined, distinct_left}
-use Rattle.sheet_history.specs.Entries.{cell_stands_at, lies_inside}
+use Rattle.sheet_history.specs.Entries.{cell_stands_at, is_inside_if_any}
 use Rattle.edit_plans.specs.laws.PlanRecords.{PlanFits}
 use Rattle.edit_plans.specs.Fills.{places_plan, with_fill}
 use Rattle.edit_plans.specs.laws.FilledContents.{content_fits, content_no_array, content_shown}
@@ -174,15 +174,15 @@ module _ (a : Along) (is : IsAxis a) (f : FillRange) (at : IsBeside a f) (sheet 
   -- ---- places
 
   inner : (list_all (λ (e : Position × Cell). is_place e.0) (entries sheet.cells) ≡ true) × (list_all (λ (e : Position × Link). is_place e.0) (entries sheet.links) ≡ true)
-  unfolding stands_inside
+  unfolding has_keys_inside
   inner = both _ _ (both _ _ (both _ _ rules.inside).0).0
 
   row_places : list_all (λ (e : ℤ × LineAttr). is_line (pos 1048576) e.0) (entries sheet.rows) ≡ true
-  unfolding stands_inside
+  unfolding has_keys_inside
   row_places = (both _ _ (both _ _ rules.inside).0).1
 
   column_places : list_all (λ (e : ℤ × LineAttr). is_line (pos 16384) e.0) (entries sheet.columns) ≡ true
-  unfolding stands_inside
+  unfolding has_keys_inside
   column_places = (both _ _ rules.inside).1
 
   rows_stay : next.rows ≡ sheet.rows
@@ -208,8 +208,8 @@ module _ (a : Along) (is : IsAxis a) (f : FillRange) (at : IsBeside a f) (sheet 
       go true held is_link = on_target q held
       go false out is_link = entry_holds position_cmp position_total exact_positions (λ (e : Position × Link). is_place e.0) sheet.links inner.1 q link is_link
 
-  inside_stays : stands_inside next ≡ true
-  unfolding stands_inside
+  inside_stays : has_keys_inside next ≡ true
+  unfolding has_keys_inside
   inside_stays =
       let cells = all_entries position_cmp position_total exact_positions (λ (e : Position × Cell). is_place e.0) next.cells cell_inside in
       let links = all_entries position_cmp position_total exact_positions (λ (e : Position × Link). is_place e.0) next.links link_inside in
@@ -323,7 +323,7 @@ module _ (a : Along) (is : IsAxis a) (f : FillRange) (at : IsBeside a f) (sheet 
     array_apart : meets r f.target ≡ false
     array_apart = no_longer (meets r f.target) (λ met.
         let uncut : is_cut f r ≡ false = none_in position_cmp position_total exact_positions large_shape (is_cut f) sheet.cells free.arrays q r old_array.was in
-        let within : lies_within r f.target ≡ true = not_false _ (and_false (meets r f.target) (not (lies_within r f.target)) met uncut) in
+        let within : is_inside_of r f.target ≡ true = not_false _ (and_false (meets r f.target) (not (is_inside_of r f.target)) met uncut) in
         let held = held_wider r f.target (anchor_place r) within (holds_anchor r (inside_found r anchored.inside)) in
         apart_values (holds f.target q) (subst (λ p. holds f.target p ≡ true) anchored.begins held) old_array.out)
 
@@ -359,15 +359,15 @@ module _ (a : Along) (is : IsAxis a) (f : FillRange) (at : IsBeside a f) (sheet 
       go rest parts false other = rest (earlier index n few other) parts.0
 
   module _ (P : MergedCell → Type 0) where
-    source_within : (m : MergedCell) → IsSource P m → lies_within m f.source ≡ true
-    source_within m s = (both (meets m f.source) (lies_within m f.source) s.repeats).1
+    source_within : (m : MergedCell) → IsSource P m → is_inside_of m f.source ≡ true
+    source_within m s = (both (meets m f.source) (is_inside_of m f.source) s.repeats).1
 
     -- it lies in the target
-    tile_within : (t : MergedCell) → IsTile P (repetitions a f) t → lies_within t f.target ≡ true
+    tile_within : (t : MergedCell) → IsTile P (repetitions a f) t → is_inside_of t f.target ≡ true
     tile_within t s =
         let it = s.repeats in
         let uncut : is_cut f t ≡ false = subst (λ r. is_cut f r ≡ false) it.same (some_uncut it.m s.index (repetitions a f) s.few it.source.uncut) in
-        not_false _ (and_false (meets t f.target) (not (lies_within t f.target)) it.met uncut)
+        not_false _ (and_false (meets t f.target) (not (is_inside_of t f.target)) it.met uncut)
 
     tile_merge : (t : MergedCell) → IsTile P (repetitions a f) t → is_merge t ≡ true
     tile_merge t s =
@@ -585,7 +585,7 @@ module _ (a : Along) (is : IsAxis a) (f : FillRange) (at : IsBeside a f) (sheet 
       go true held is_entry =
           let same : ◌≡◌ {A = Option Cell} (Some (cell q)) entry = cc in
           ap (λ e. is_place q && cell_stands_at q e) (sym same)
-          ∙ (λ i. on_target q held i && (content_fits a is f sheet rules.trees locale language q held i && lies_inside (content_no_array a f sheet locale language q i)))
+          ∙ (λ i. on_target q held i && (content_fits a is f sheet rules.trees locale language q held i && is_inside_if_any (content_no_array a f sheet locale language q i)))
       go false out is_entry = absurd (no_value entry is_entry)
 
   link_stands : (q : Position) (entry : Option Link) → get plan.links q ≡ Some entry → is_place q ≡ true

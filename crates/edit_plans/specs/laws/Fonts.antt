@@ -1,4 +1,4 @@
--- The style that a place shows has a font, and a place that is found lies inside the sheet.
+-- The style that a place shows has a font, and a place that is found is inside the sheet.
 use Rattle.std.proofs.Common.{◌≡◌, ℤ, pos, Bool, true, false, cond, ◌&&◌, not, Option, Some, None, Result, Ok, Err, refl, ap, sym, ◌∙◌}
 use Rattle.std.specs.Prelude.{IsTrue, IfSome}
 use Rattle.std.specs.Option.{option_or, unwrap_or}
@@ -26,7 +26,7 @@ use Rattle.sheet_history.specs.laws.Entries.{entry_holds}
 
 -- ---- places
 
--- a place that is found lies inside the sheet
+-- a place that is found is inside the sheet
 pub place_inside : (row column : ℤ) (place : Position) → place_of row column ≡ Ok place → is_place place ≡ true
 unfolding place_of
 place_inside row column place is = go (is_line (pos 1048576) row) refl (is_line (pos 16384) column) refl is

@@ -31,7 +31,7 @@ use Rattle.sheet_history.specs.declared.Diff.{Diff}
 use Rattle.sheet_history.specs.declared.Diff.TheVariants.{Cell as CellDiff, Link as LinkDiff}
 use Rattle.sheet_history.specs.declared.LineAxis.TheVariants.{Rows}
 use Rattle.sheet_history.specs.Diffs.{IsCanonicalList}
-use Rattle.sheet_history.specs.Entries.{EntryKey, lies_inside, cell_stands_at, value_fits, with_changed, with_sheet_entry, put_entry}
+use Rattle.sheet_history.specs.Entries.{EntryKey, is_inside_if_any, cell_stands_at, value_fits, with_changed, with_sheet_entry, put_entry}
 use Rattle.sheet_history.specs.Entries.EntryKey.{AttrKey, CellKey, LinkKey}
 use Rattle.sheet_history.specs.Entries.EntryValue.{AttrValue, CellValue, LinkValue}
 use Rattle.sheet_history.specs.Records.{same_entry_value, IsRecord}
@@ -99,8 +99,8 @@ entered_font None content style font = new_font content style font
 entered_font (Some cell) content style font = font
 
 fits_no_array : (place : Position) (content : Content) → fits_at place content ≡ true → array_at place content ≡ None
-    → (fits_at place content && lies_inside (array_at place content)) ≡ true
-fits_no_array place content fits plain = λ i. fits i && lies_inside (plain i)
+    → (fits_at place content && is_inside_if_any (array_at place content)) ≡ true
+fits_no_array place content fits plain = λ i. fits i && is_inside_if_any (plain i)
 
 new_stands : (place : Position) (content : Content) (style : Style) → fits_at place content ≡ true → array_at place content ≡ None
     → cell_stands_at place (new_cell content style) ≡ true

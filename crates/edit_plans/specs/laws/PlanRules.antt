@@ -24,7 +24,7 @@ use Rattle.sheet_grid.specs.laws.FittingCells.{entry_fits_at}
 use Rattle.sheet_grid.specs.Merges.{is_empty}
 use Rattle.sheet_grid.specs.Sheet.{Sheet}
 use Rattle.sheet_rules.specs.Occupied.{are_hidden_blank, have_arrays, have_merges}
-use Rattle.sheet_rules.specs.WellFormed.{has_font, have_attributes, have_trees, is_column, is_row, stands_inside}
+use Rattle.sheet_rules.specs.WellFormed.{has_font, have_attributes, have_trees, is_column, is_row, has_keys_inside}
 use Rattle.sheet_rules.specs.laws.ArraysIn.{array_in, large_array_in}
 use Rattle.sheet_rules.specs.laws.EntryLaws.{both}
 use Rattle.sheet_rules.specs.laws.OccupiedLaws.{are_hidden_blank_from, have_arrays_from, have_merges_from, keeps_arrays, keeps_hidden, keeps_merges}
@@ -70,15 +70,15 @@ module _ (plan : SheetPlan) (sheet : Sheet) (keeps : PlanKeeps plan sheet) (rule
 
   inner : (list_all (λ (e : Position × Cell). is_place e.0) (entries sheet.cells) ≡ true)
       × (list_all (λ (e : Position × Link). is_place e.0) (entries sheet.links) ≡ true)
-  unfolding stands_inside
+  unfolding has_keys_inside
   inner = both _ _ (both _ _ (both _ _ rules.inside).0).0
 
   row_places : list_all (λ (e : ℤ × LineAttr). is_line (pos 1048576) e.0) (entries sheet.rows) ≡ true
-  unfolding stands_inside
+  unfolding has_keys_inside
   row_places = (both _ _ (both _ _ rules.inside).0).1
 
   column_places : list_all (λ (e : ℤ × LineAttr). is_line (pos 16384) e.0) (entries sheet.columns) ≡ true
-  unfolding stands_inside
+  unfolding has_keys_inside
   column_places = (both _ _ rules.inside).1
 
   attributes : (list_all (λ (e : ℤ × LineAttr). is_row e.1) (entries sheet.rows) ≡ true)
@@ -226,8 +226,8 @@ module _ (plan : SheetPlan) (sheet : Sheet) (keeps : PlanKeeps plan sheet) (rule
     entry_holds int_cmp int_cmp_total exact_signed (λ (e : ℤ × LineAttr). is_column e.1) sheet.columns attributes.1 line attr found,
   ))
 
-  inside_stays : stands_inside next ≡ true
-  unfolding stands_inside
+  inside_stays : has_keys_inside next ≡ true
+  unfolding has_keys_inside
   inside_stays =
       let cells = all_entries position_cmp position_total exact_positions (λ (e : Position × Cell). is_place e.0) next.cells
       (λ place cell found. (now place cell found).inside) in

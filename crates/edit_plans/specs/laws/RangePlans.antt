@@ -30,7 +30,7 @@ use Rattle.range_styles.specs.declared.SheetPlan.{SheetPlan}
 use Rattle.sheet_history.specs.declared.Diff.{Diff}
 use Rattle.sheet_history.specs.declared.LineAxis.TheVariants.{Rows, Columns}
 use Rattle.sheet_history.specs.Diffs.{IsCanonicalList}
-use Rattle.sheet_history.specs.Entries.{cell_stands_at, lies_inside}
+use Rattle.sheet_history.specs.Entries.{cell_stands_at, is_inside_if_any}
 use Rattle.sheet_history.specs.Records.{IsRecord}
 use Rattle.sheet_history.specs.laws.Entries.{all_entries}
 use Rattle.sheet_history.specs.laws.RuleLaws.{KeepsSheetRules}
@@ -54,16 +54,16 @@ module _ (plan : SheetPlan) (sheet : Sheet) (keeping : PlanKeeps plan sheet) (ru
   empty_is content h = absurd (let never : false ≡ true = h in cc)
 
   -- a content that is left may stand at its place
-  stands_left : (place : Position) (content : Content) → IsLeft (get sheet.cells place) content → (fits_at place content && lies_inside (array_at place content)) ≡ true
-  stands_left place content (inl empty) = ap (λ c. fits_at place c && lies_inside (array_at place c)) (empty_is content empty)
+  stands_left : (place : Position) (content : Content) → IsLeft (get sheet.cells place) content → (fits_at place content && is_inside_if_any (array_at place content)) ≡ true
+  stands_left place content (inl empty) = ap (λ c. fits_at place c && is_inside_if_any (array_at place c)) (empty_is content empty)
   stands_left place content (inr had) =
-      ap (λ c. fits_at place c && lies_inside (array_at place c)) had.is
+      ap (λ c. fits_at place c && is_inside_if_any (array_at place c)) had.is
       ∙ (λ i. fits i && inside (array_at place had.cell.content) refl i)
     where
       fits : fits_at place had.cell.content ≡ true
       fits = sym (ap (entry_fits_at place) had.found) ∙ cells_fit_from_trees sheet rules.trees place
 
-      inside : (o : Option _) → array_at place had.cell.content ≡ o → lies_inside o ≡ true
+      inside : (o : Option _) → array_at place had.cell.content ≡ o → is_inside_if_any o ≡ true
       inside None at = refl
       inside (Some array) at = (keeps_arrays sheet rules.arrays).inside place array (ap (option_and_then (λ (c : Cell). array_at place c.content)) had.found ∙ at)
 

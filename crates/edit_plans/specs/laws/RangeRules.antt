@@ -51,7 +51,7 @@ place_passes : (p : Position) → IsPlace p → is_place p ≡ true
 place_passes p h =
     λ i. (le_test (pos 1) p.row h.0.0 i && le_test p.row (pos 1048576) h.0.1 i) && (le_test (pos 1) p.column h.1.0 i && le_test p.column (pos 16384) h.1.1 i)
 
--- a line of a rectangle that lies inside is one of the axis
+-- a line of a rectangle that is inside is one of the axis
 row_inside : (r : MergedCell) → IsInside r → (line : ℤ) → is_between r.row (last_row r) line ≡ true → is_line (pos 1048576) line ≡ true
 row_inside r inside line h =
     let p = both (int_le r.row line) (int_le line (last_row r)) h in

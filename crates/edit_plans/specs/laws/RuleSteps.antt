@@ -11,7 +11,7 @@ use Rattle.sheet_rules.specs.Distinct.{are_distinct}
 use Rattle.sheet_rules.specs.Names.{are_names}
 use Rattle.sheet_rules.specs.SheetNames.{is_sheet_name}
 use Rattle.sheet_rules.specs.Occupied.{have_arrays, have_merges, are_hidden_blank}
-use Rattle.sheet_rules.specs.WellFormed.{are_sheets, have_attributes, have_trees, stands_inside, IsWellFormed}
+use Rattle.sheet_rules.specs.WellFormed.{are_sheets, have_attributes, have_trees, has_keys_inside, IsWellFormed}
 use Rattle.sheet_rules.specs.laws.EntryLaws.{both}
 use Rattle.sheet_rules.specs.laws.WellFormedLaws.{well_formed_parts}
 use Rattle.sheet_ids.specs.Ids.{sheet_of}
@@ -107,7 +107,7 @@ parts_and_trees (f ∷ fs) stand =
 -- a sheet keeps its rules where each of its later ones may
 later_keeps : (sheet : Sheet) (changes : List RuleChange) → KeepsSheetRules sheet → list_all may_stand (rules_after changes sheet.formattings) ≡ true
     → KeepsSheetRules (with_changes sheet changes)
-unfolding stands_inside have_arrays have_merges are_hidden_blank have_trees have_attributes
+unfolding has_keys_inside have_arrays have_merges are_hidden_blank have_trees have_attributes
 later_keeps sheet changes h stand =
     let own = parts_and_trees (rules_after changes sheet.formattings) stand in
     record {

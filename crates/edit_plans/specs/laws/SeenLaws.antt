@@ -1,4 +1,4 @@
--- The rectangle that an edit asks for lies inside the sheet, where the edit is not refused and the one that was viewed lies inside.
+-- The rectangle that an edit asks for is inside the sheet, where the edit is not refused and the one that was viewed is inside.
 use Rattle.std.proofs.Common.{◌≡◌, ℕ, ℤ, pos, ◌+ℤ◌, ◌-ℤ◌, ◌≤ℤ◌, ◌<◌, Bool, true, false, cond, List, length, Result, Ok, Err, refl, ap, sym, ◌∙◌, arith}
 use Rattle.std.specs.Prelude.{◌==◌, ◌&&◌, int_le, nat_lt}
 use Rattle.std.proofs.lemmas.Int.{ints}
@@ -7,7 +7,7 @@ use Rattle.base_values.specs.declared.EditError.{EditError}
 use Rattle.base_values.specs.declared.EditError.TheVariants.{InvalidArea, StylesShape}
 use Rattle.base_values.specs.Answers.{and_then, map_ok}
 use Rattle.base_axis.specs.declared.MergedCell.{MergedCell}
-use Rattle.base_axis.specs.Rectangles.{is_inside, last_column, last_of, last_row, stands_inside}
+use Rattle.base_axis.specs.Rectangles.{is_inside, last_column, last_of, last_row, are_lines_inside}
 use Rattle.base_styles.specs.declared.Style.{Style}
 use Rattle.line_sizes.specs.declared.LineChange.{LineChange}
 use Rattle.line_sizes.specs.declared.LineChange.TheVariants.{Hidden}
@@ -60,7 +60,7 @@ whole_inside : (axis : LineAxis) (line : ℤ) → pos 1 ≤ℤ line → line ≤
 whole_inside Rows line low high = rw (lines_inside (pos 1048576) line line low (omega (arith, ints)) high) refl
 whole_inside Columns line low high = lines_inside (pos 16384) line line low (omega (arith, ints)) high
 
-spans : (last first count : ℤ) → stands_inside last first count ≡ true → are_lines last first (last_of first count) ≡ true
+spans : (last first count : ℤ) → are_lines_inside last first count ≡ true → are_lines last first (last_of first count) ≡ true
 spans last first count is = grind (arith, ints, is)
 
 both : (a b : Bool) → a && b ≡ true → (a ≡ true) × (b ≡ true)
@@ -72,7 +72,7 @@ both false b h = absurd (cc)
 pub corners_inside : (r : MergedCell) → is_inside r ≡ true → is_rectangle (range_from r.row r.column (last_row r) (last_column r)) ≡ true
 unfolding is_inside
 corners_inside r is =
-    let two = both (stands_inside (pos 1048576) r.row r.height) (stands_inside (pos 16384) r.column r.width) is in
+    let two = both (are_lines_inside (pos 1048576) r.row r.height) (are_lines_inside (pos 16384) r.column r.width) is in
     rw (spans (pos 1048576) r.row r.height two.0, spans (pos 16384) r.column r.width two.1) refl
 
 -- ---- edits

@@ -1,4 +1,4 @@
--- Rules that may stand on a sheet: they have a place, their parts lie inside and their formulas are placed; and changed formulas have
+-- Rules that may stand on a sheet: they have a place, their parts are inside and their formulas are placed; and changed formulas have
 -- canonical numbers where their trees do.
 use Rattle.std.proofs.Common.{◌≡◌, Bool, true, List, [], ◌∷◌, length, refl, arith}
 use Rattle.std.specs.Prelude.{◌&&◌, ◌==◌, not}
@@ -18,7 +18,7 @@ use Rattle.format_rules.specs.declared.rule.CfRule.{CfRule}
 use Rattle.format_rules.specs.declared.formatting.ConditionalFormatting.{ConditionalFormatting}
 use Rattle.format_rules.specs.Canonical.{cfvo_is_canonical, has_canonical_numbers}
 use Rattle.format_rules.specs.RuleTrees.{each_tree, cfvo_changed, trees_changed}
-use Rattle.format_rules.specs.Fitting.{place_of, has_parts, tree_fits, has_fitting_trees, StandsOn, StandsInside}
+use Rattle.format_rules.specs.Fitting.{place_of, has_parts, tree_fits, has_fitting_trees, RuleOn, RuleInside}
 use Rattle.format_rules.specs.laws.RuleTreeLaws.{left, right, each_found, each_still, thresholds_pass}
 
 all_inside : (parts : List MergedCell) → list_all is_inside parts ≡ true → All IsInside parts
@@ -36,7 +36,7 @@ placed_where_fits place tree h = first_of _ _ _ h
 
 module _ (rule : CfRule) where
   stands_on : (parts : List MergedCell) → not (length parts == 0) && list_all is_inside parts ≡ true → each_tree (tree_fits (place_of parts)) rule ≡ true →
-      StandsOn parts rule
+      RuleOn parts rule
   stands_on [] has fits = absurd (cc)
   stands_on (first ∷ others) has fits = record {
     place = anchor_place first;
@@ -46,10 +46,10 @@ module _ (rule : CfRule) where
         (placed_where_fits (anchor_place first)) rule fits;
   }
 
--- a rule that passes both tests stands inside the sheet
-pub stands_inside : (formatting : ConditionalFormatting) → has_parts formatting ≡ true → has_fitting_trees formatting ≡ true → StandsInside formatting
+-- a rule that passes both tests is inside the sheet
+pub rule_inside : (formatting : ConditionalFormatting) → has_parts formatting ≡ true → has_fitting_trees formatting ≡ true → RuleInside formatting
 unfolding has_parts
-stands_inside formatting parts trees = stands_on formatting.rule formatting.parts parts trees
+rule_inside formatting parts trees = stands_on formatting.rule formatting.parts parts trees
 
 -- ---- numbers
 

@@ -102,7 +102,7 @@ same_heads x y xs ys e = (cc, cc)
 
 -- ---- there and back
 
--- of each leaf whose corners lie inside, and in order, a test tells whether moving there and back gives another tree; no name passes
+-- of each leaf whose corners are inside, and in order, a test tells whether moving there and back gives another tree; no name passes
 pub record TellsLeaves (from to : Position) (there home : Mapping) (t : LeafTests) : Type 0 where
   pub reference : (sheet : Option (List ℕ)) (corner : Corner) → is_inside from corner ≡ true →
       Decides (not (t.reference sheet corner)) (moved from home (reference_to sheet (there.reference sheet corner)) ≡ node.Reference sheet corner)
@@ -184,7 +184,7 @@ module _ (from to : Position) (there home : Mapping) (t : LeafTests) where
       let e = ap (moved from home) goes in
       Decides-at (not (has_leaf t n)) (not leaf) (ap not is_leaf) (Decides-like (not leaf) (λ s. e ∙ s) (λ s. sym e ∙ s) (told (sym is ∙ h)))
 
-  -- the law of leaves: where a test tells it of each leaf, it tells of a tree whose corners lie inside and in order whether moving there
+  -- the law of leaves: where a test tells it of each leaf, it tells of a tree whose corners are inside and in order whether moving there
   -- and back gives the tree
   pub tells_trees : TellsLeaves from to there home t → (n : Node) → Told n
   tells_trees tells = induct Told (record {

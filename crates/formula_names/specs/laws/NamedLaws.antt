@@ -100,7 +100,7 @@ module _ (f : Naming) where
     same_places [] same = refl
     same_places (n ∷ all) same = λ i. same.0 i && same_places all same.1 i
 
-    -- its corners lie inside, and in order, where they did
+    -- its corners are inside, and in order, where they did
     pub placed-named : (n : Node) → is_placed place (named f n) ≡ is_placed place n
     placed-named = induct (λ n. is_placed place (named f n) ≡ is_placed place n) (record {
       boolean = λ value. ap (is_placed place) (named_boolean f value);

@@ -1,4 +1,4 @@
--- A tree whose corners move is placed where they come to lie inside, and stays where they stay.
+-- A tree whose corners move is placed where they come to be inside, and stays where they stay.
 use Rattle.std.specs.Prelude.{◌≡◌, ℕ, Bool, true, false, ◌&&◌, ◌||◌, if◌then◌else◌, List, [], ◌∷◌, map, Option, Some, None, IfSome}
 use Rattle.std.proofs.Common.{refl, ap, sym, ◌∙◌, arith}
 use Rattle.std.specs.List.{list_all, AllByRecursion}
@@ -26,7 +26,7 @@ both a b left right = grind arith
 
 -- ---- a placed tree stays
 
--- the mapping leaves the corners that lie inside for a formula at that place
+-- the mapping leaves the corners that are inside for a formula at that place
 pub record Keeps (to : Position) (m : Mapping) : Type 0 where
   pub reference : (sheet : Option (List ℕ)) (corner : Corner) → is_inside to corner ≡ true → m.reference sheet corner ≡ Some corner
   pub first : (sheet : Option (List ℕ)) (first second : Corner) → is_inside to first && is_inside to second ≡ true → m.first sheet first second ≡ Some first
@@ -55,7 +55,7 @@ all_stay to m (n ∷ all) stays placed =
     let rest : map (moved to m) all ≡ all = all_stay to m all stays.1 (right (is_placed to n) (list_all (is_placed to) all) placed) in
     λ i. here i ∷ rest i
 
--- a tree whose corners lie inside and in order stays as it is
+-- a tree whose corners are inside and in order stays as it is
 pub moved-placed : (to : Position) (m : Mapping) → Keeps to m → (n : Node) → is_placed to n ≡ true → moved to m n ≡ n
 moved-placed to m keeps = induct (Stays to m) (record {
   boolean = λ value _. moved_boolean to m value;
@@ -85,7 +85,7 @@ moved-placed to m keeps = induct (Stays to m) (record {
 
 -- ---- a moved tree is placed
 
--- the mapping brings corners inside for a formula that then stands at `to`: those that lie inside for it at `from`, or always every corner
+-- the mapping brings corners inside for a formula that then stands at `to`: those that are inside for it at `from`, or always every corner
 pub record Lands (always : Bool) (from to : Position) (m : Mapping) : Type 0 where
   pub reference : (sheet : Option (List ℕ)) (corner : Corner) → always || is_inside from corner ≡ true → IfSome (m.reference sheet corner) (λ c. is_inside to c ≡ true)
   pub first : (sheet : Option (List ℕ)) (first second : Corner) → always || (is_inside from first && is_inside from second) ≡ true → IfSome (m.first sheet first second) (λ c. is_inside to c ≡ true)
@@ -102,7 +102,7 @@ unfolding reference_to
 placed-reference_to to sheet (Some corner) inside = placed_reference to sheet corner ∙ inside
 placed-reference_to to sheet None _ = placed_error to Ref
 
--- a corner of the row of one that lies inside and the column of another does too
+-- a corner of the row of one that is inside and the column of another does too
 crossing_inside : (to : Position) (a b : Corner) (rows columns : Bool) → is_inside to a ≡ true → is_inside to b ≡ true → is_inside to (crossing (if rows then b else a) (if columns then b else a)) ≡ true
 unfolding is_inside corner_row corner_column
 crossing_inside to a b true true p q = q
@@ -110,7 +110,7 @@ crossing_inside to a b true false p q = grind arith
 crossing_inside to a b false true p q = grind arith
 crossing_inside to a b false false p q = p
 
--- the corners of a range that lie inside are placed once they are in order
+-- the corners of a range that are inside are placed once they are in order
 pub ordered_placed : (to : Position) (first second : Corner) → is_inside to first && is_inside to second ≡ true → is_placed_range to (lower_corner to first second) (higher_corner to first second) ≡ true
 unfolding is_placed_range lower_corner higher_corner
 ordered_placed to first second inside =
@@ -151,7 +151,7 @@ range_lands always from to m lands sheet first second either =
     let inside : always || (is_inside from first && is_inside from second) ≡ true = or_left always (is_inside from first && is_inside from second) (are_in_order from first second) either in
     placed-range_to to sheet (m.first sheet first second) (m.second sheet first second) (lands.first sheet first second inside) (lands.second sheet first second inside)
 
--- a moved tree's corners lie inside and in order
+-- a moved tree's corners are inside and in order
 pub placed-moved : (always : Bool) (from to : Position) (m : Mapping) → Lands always from to m → (n : Node) → always || is_placed from n ≡ true → is_placed to (moved to m n) ≡ true
 placed-moved always from to m lands = induct (PlacedAfter always from to m) (record {
   boolean = λ value _. ap (is_placed to) (moved_boolean to m value) ∙ placed_boolean to value;

@@ -27,7 +27,7 @@ left a b both = grind arith
 right : (a b : Bool) → a && b ≡ true → b ≡ true
 right a b both = grind arith
 
--- a tree whose corners lie inside and in order is rebased to itself
+-- a tree whose corners are inside and in order is rebased to itself
 pub rebased-placed : (to : Position) (n : Node) → is_placed to n ≡ true → rebased to n ≡ n
 unfolding rebased
 rebased-placed to = moved-placed to (filling to) (record {
@@ -40,12 +40,12 @@ kept_if : (to : Position) (corner : Corner) (inside : Bool) → is_inside to cor
 kept_if to corner true inside = inside
 kept_if to corner false _ = tt
 
--- what is kept lies inside
+-- what is kept is inside
 inside_kept : (to : Position) (corner : Corner) → IfSome (same_corner to corner) (λ c. is_inside to c ≡ true)
 unfolding same_corner
 inside_kept to corner = kept_if to corner (is_inside to corner) refl
 
--- the corners of a rebased tree lie inside and in order
+-- the corners of a rebased tree are inside and in order
 pub placed-rebased : (to : Position) (n : Node) → is_placed to (rebased to n) ≡ true
 unfolding rebased
 placed-rebased to n = placed-moved true to to (filling to) (record {

@@ -10,7 +10,7 @@
 //
 // Row 9 has values in A to E, and H in rows 1 to 4, so that few walks are long.
 ghost use Rattle.std.specs.Prelude.{IfOk};
-ghost use Rattle.sheet_navigation.specs.Navigated.{MergesLie};
+ghost use Rattle.sheet_navigation.specs.Navigated.{MergesInside};
 
 use base_axis::MergedCell;
 use base_shared::Shared;
@@ -59,7 +59,7 @@ fn filled(alloc: Global) -> Result<Worksheet, EditError> {
 }
 
 fn sheet(alloc: Global) -> Result<Worksheet, EditError>
-    ensures { IfOk result MergesLie }
+    ensures { IfOk result MergesInside }
 {
     let mut sheet = filled(alloc)?;
     let mut merges = Items::empty(alloc);
@@ -115,7 +115,7 @@ fn first_astray(
     down: i32,
     right: i32,
 ) -> Result<Option<(i32, i32)>, EditError>
-    requires { MergesLie sheet.now }
+    requires { MergesInside sheet.now }
 {
     for at in 0..25 {
         let (row, column) = (at / 5 + 1, at % 5 + 1);
@@ -129,7 +129,7 @@ fn first_astray(
 
 /// That place in one direction, then in the next one.
 fn astray(sheet: &Worksheet) -> Result<Option<(i32, i32)>, EditError>
-    requires { MergesLie sheet.now }
+    requires { MergesInside sheet.now }
 {
     for (direction, down, right) in [
         (NavigationDirection::Left, 0, -1),

@@ -134,7 +134,7 @@ const CASES: [(Piece, Piece, Option<u8>); 56] = [
     (Piece::RowName(1048575), Piece::Nothing, None),
     (Piece::RowName(1048576), Piece::Nothing, Some(6)),
     (Piece::RowName(-1), Piece::Nothing, Some(6)),
-    // Formulas of conditional rules stand at the first place of the first part, and each part lies inside
+    // Formulas of conditional rules stand at the first place of the first part, and each part is inside
     // the sheet. Without a part it is not asked where the formula leads.
     (Piece::Rule(-1, [Some(1), None]), Piece::Nothing, None),
     (Piece::Rule(-2, [Some(1), None]), Piece::Nothing, Some(6)),

@@ -1,4 +1,4 @@
--- The laws of the bytes of keys that lie inside the sheet, and of maps from them.
+-- The laws of the bytes of keys that are inside the sheet, and of maps from them.
 use Rattle.std.proofs.Common.{◌≡◌, ℕ, ℤ, pos, negsuc, ◌≤ℤ◌, true, List, refl, arith, rules}
 use Rattle.std.specs.Prelude.{FitsSigned}
 use Rattle.std.proofs.lemmas.Bool.{and_parts, and_from}

@@ -30,7 +30,7 @@ use Rattle.grid_wire.specs.StateBytes.{state_code}
 abbrev pub states : List SheetState
 states = Visible ∷ Hidden ∷ VeryHidden ∷ []
 
--- ---- the keys of a sheet's maps, which lie inside the sheet, and these maps
+-- ---- the keys of a sheet's maps, which are inside the sheet, and these maps
 
 -- a position of the sheet
 unfoldable pub place_at : Reader Position

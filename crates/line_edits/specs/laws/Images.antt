@@ -5,7 +5,7 @@ use Rattle.std.proofs.lemmas.Int.{ints}
 use Rattle.base_values.specs.Places.{IsLine, is_line, as_line}
 use Rattle.line_edits.specs.declared.edit.EditKind.{EditKind}
 use Rattle.line_edits.specs.declared.edit.EditKind.TheVariants.{Insert, Delete, Move}
-use Rattle.line_edits.specs.Edit.{is_in_block, moved_by, goes_to, image_at, opposite_of, is_within, is_valid, IsValid}
+use Rattle.line_edits.specs.Edit.{is_in_block, moved_by, goes_to, image_at, opposite_of, begins_inside, is_valid, IsValid}
 use Rattle.line_edits.specs.laws.Passing.{by_passing, of_block, passed_down, passed_up, stays_before, stays_behind}
 use Rattle.line_edits.specs.Moves.{inserted_by, is_brought}
 
@@ -22,7 +22,7 @@ pub record IsMove (last first count delta : ℤ) : Type 0 where
   pub target_begins : pos 1 ≤ℤ (first +ℤ delta)
   pub target_ends : ((first +ℤ count) +ℤ delta) ≤ℤ (last +ℤ pos 1)
 
-pub within_parts : (last first count : ℤ) → is_within last first count ≡ true → IsWithin last first count
+pub within_parts : (last first count : ℤ) → begins_inside last first count ≡ true → IsWithin last first count
 within_parts last first count h = record { begins = (grind (arith, ints), grind (arith, ints)); amount = (grind (arith, ints), grind (arith, ints)) }
 
 pub insert_parts : (last first count : ℤ) → IsValid last (Insert first count) → IsWithin last first count

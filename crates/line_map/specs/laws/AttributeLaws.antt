@@ -11,7 +11,7 @@ use Rattle.base_axis.specs.Along.{Along, IsAxis, rows, columns}
 use Rattle.base_maps.specs.Carried.{Inverse, if_there, lost_map, moved_map, overlaid}
 use Rattle.base_maps.specs.laws.Inverses.{own_inverse}
 use Rattle.line_edits.specs.Moves.{is_brought}
-use Rattle.line_map.specs.Attributes.{heirs, line_brought, line_goes_along, line_goes, lines_brought, lines_carried, lines_restored, LinesLie}
+use Rattle.line_map.specs.Attributes.{heirs, line_brought, line_goes_along, line_goes, lines_brought, lines_carried, lines_restored, LinesInside}
 use Rattle.line_map.specs.Keys.{AreKeys, BringsBeside, KeysAre}
 use Rattle.line_map.specs.laws.HeirLaws.{both_of, get-brought}
 use Rattle.line_map.specs.laws.MapLaws.{entries_return, entries_stay, lost_given}
@@ -75,7 +75,7 @@ lines_bring {X} b i same = record {
 
 module _ {X : Type 0} (w : RouteModel) (is : IsRoute w) (b : Along) (i : IsAxis b) (same : X → X → Bool) (m : FinMap int_cmp X) where
   -- what is carried along lies on the axis
-  pub lines_stay : LinesLie b m → LinesLie b (lines_carried b same w m)
+  pub lines_stay : LinesInside b m → LinesInside b (lines_carried b same w m)
   lines_stay lie = (entries_stay (line_keys b i) w is (λ _ x. x) (λ _ _. ⊤) (λ v route_model x h. tt) m
       (record { places = lie; items = λ p q x held there. tt }) (lines_bring b i same)).places
 

@@ -6,8 +6,8 @@ use Rattle.cell_content.specs.Lens.{tree_of, with_tree}
 use Rattle.cell_content.specs.laws.ChangedLaws.{changed_back, changed_tree, put_back, unchanged}
 use Rattle.sheet_grid.specs.declared.Cell.{Cell}
 use Rattle.base_maps.specs.Carried.{if_there}
-use Rattle.line_map.specs.Contents.{content_carried, content_part, ContentLies, cell_carried, cell_part, cell_restored, CellLies}
-use Rattle.line_routes.specs.Trees.{tree_carried, tree_part, TreeLies}
+use Rattle.line_map.specs.Contents.{content_carried, content_part, ContentInside, cell_carried, cell_part, cell_restored, CellInside}
+use Rattle.line_routes.specs.Trees.{tree_carried, tree_part, TreeInside}
 use Rattle.line_routes.specs.RouteModel.{RouteModel, IsRoute, back}
 use Rattle.line_routes.specs.laws.TreeLaws.{tree_stays, tree_comes_back, tree_restores}
 
@@ -16,8 +16,8 @@ pub unchanged_content : (w : RouteModel) (content : Content) (tree : Node) → t
     content_carried w content ≡ content
 unchanged_content w content tree h stays = unchanged (tree_carried w) content tree h stays
 
-pub content_stays : (w : RouteModel) → IsRoute w → (content : Content) → ContentLies w content → ContentLies (back w) (content_carried w content)
-content_stays w is content lies = changed_tree (tree_carried w) content (TreeLies (back w)) (λ tree h. tree_stays w is tree)
+pub content_stays : (w : RouteModel) → IsRoute w → (content : Content) → ContentInside w content → ContentInside (back w) (content_carried w content)
+content_stays w is content lies = changed_tree (tree_carried w) content (TreeInside (back w)) (λ tree h. tree_stays w is tree)
 
 pub content_comes_back : (w : RouteModel) (content : Content) → content_part w content ≡ None → content_carried (back w) (content_carried w content) ≡ content
 content_comes_back w content none = changed_back (tree_carried w) (tree_carried (back w)) content
@@ -32,7 +32,7 @@ restored_at w content (Some tree) h part some =
 pub content_restores : (w : RouteModel) (content : Content) (part : Node) → content_part w content ≡ Some part → with_tree (content_carried w content) part ≡ content
 content_restores w content part h = restored_at w content _ refl part h
 
-pub cell_stays : (w : RouteModel) → IsRoute w → (cell : Cell) → CellLies w cell → CellLies (back w) (cell_carried w cell)
+pub cell_stays : (w : RouteModel) → IsRoute w → (cell : Cell) → CellInside w cell → CellInside (back w) (cell_carried w cell)
 cell_stays w is cell lies = content_stays w is cell.content lies
 
 pub cell_comes_back : (w : RouteModel) (cell : Cell) → cell_part w cell ≡ None → cell_carried (back w) (cell_carried w cell) ≡ cell

@@ -5,12 +5,12 @@ use Rattle.std.specs.FinMap.{FinMap}
 use Rattle.format_rules.specs.declared.ConditionalFormatting.{ConditionalFormatting}
 use Rattle.line_routes.specs.RouteModel.{RouteModel, IsRoute}
 use Rattle.line_map.specs.declared.edited_rules.EditedRules.{EditedRules}
-use Rattle.line_map.specs.EditedRules.{route_on, edited_carried, edited_part, edited_restored, EditedLie}
+use Rattle.line_map.specs.EditedRules.{route_on, edited_carried, edited_part, edited_restored, EditedInside}
 use Rattle.line_map.specs.Rules.{rules_carried, rules_kept, rules_restored}
 use Rattle.line_map.specs.laws.RuleLaws.{rules_stay, rules_regained}
 use Rattle.std.specs.Prelude.{Some}
 
-pub edited_stay : (w : RouteModel) → IsRoute w → (v : EditedRules) → EditedLie v → EditedLie (edited_carried w v)
+pub edited_stay : (w : RouteModel) → IsRoute w → (v : EditedRules) → EditedInside v → EditedInside (edited_carried w v)
 edited_stay w is v lie = rules_stay (route_on w v.edited) (record { axis = is.axis; one_to_one = is.one_to_one }) v.rules lie
 
 pub edited_restore : (w : RouteModel) (v : EditedRules) (kept : FinMap nat_cmp ConditionalFormatting) → edited_part w v ≡ Some kept → edited_restored w

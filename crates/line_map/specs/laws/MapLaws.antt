@@ -11,7 +11,7 @@ use Rattle.base_maps.specs.laws.Each.{each_found, each_gathered, keys_lost}
 use Rattle.base_maps.specs.laws.Gathering.{get-lost_map}
 use Rattle.base_maps.specs.laws.Inverses.{turned_inverse}
 use Rattle.line_map.specs.Keys.{AreKeys, BringsBeside}
-use Rattle.line_map.specs.Maps.{AllLie, KeptFits, entries_carried, entries_parts, entries_restored, entry_part, places_carried}
+use Rattle.line_map.specs.Maps.{AllInside, KeptFits, entries_carried, entries_parts, entries_restored, entry_part, places_carried}
 use Rattle.line_map.specs.laws.AloneLaws.{settles}
 use Rattle.line_routes.specs.RouteModel.{RouteModel, IsRoute, at, back, place_goes}
 use Rattle.line_routes.specs.laws.RouteLaws.{goes_inverse, goes_there, at_is_route}
@@ -45,31 +45,31 @@ module _ {Q : Type 0} {R : Q → Q → Ordering} {fits : Q → Type 0} {goes : R
   abbrev inverse : Inverse (goes w) (goes (back w))
   inverse = keys.inverse w is
 
-  module _ {F : Type 0} (carry : RouteModel → F → F) (Lies : RouteModel → F → Type 0) where
-    module _ (stays : (v : RouteModel) → IsRoute v → (x : F) → Lies v x → Lies (back v) (carry v x)) (m : FinMap R F) (lie : AllLie goes route_at fits Lies w m) where
-      -- an entry of a carried map: its key fits, and it lies inside on the way back to any key that goes there
-      abbrev LiesBack : Q → F → Type 0
-      LiesBack q y = fits q × ((p : Q) → goes w p ≡ Some q → Lies (route_at (back w) q p) y)
+  module _ {F : Type 0} (carry : RouteModel → F → F) (Inside : RouteModel → F → Type 0) where
+    module _ (stays : (v : RouteModel) → IsRoute v → (x : F) → Inside v x → Inside (back v) (carry v x)) (m : FinMap R F) (lie : AllInside goes route_at fits Inside w m) where
+      -- an entry of a carried map: its key fits, and it is inside on the way back to any key that goes there
+      abbrev InsideBack : Q → F → Type 0
+      InsideBack q y = fits q × ((p : Q) → goes w p ≡ Some q → Inside (route_at (back w) q p) y)
 
-      each_lies : (q : Q) (y : F) → get (entries_carried goes route_at carry w m) q ≡ Some y → LiesBack q y
-      each_lies = each_found R LiesBack (entries_carried goes route_at carry w m)
-          (each_gathered R keys.total keys.exact LiesBack (goes w) (goes (back w)) inverse (λ p q x. Some (carry (route_at w p q) x)) m (λ p q x there held. (
+      each_is_inside : (q : Q) (y : F) → get (entries_carried goes route_at carry w m) q ≡ Some y → InsideBack q y
+      each_is_inside = each_found R InsideBack (entries_carried goes route_at carry w m)
+          (each_gathered R keys.total keys.exact InsideBack (goes w) (goes (back w)) inverse (λ p q x. Some (carry (route_at w p q) x)) m (λ p q x there held. (
             keys.lands w is p q (lie.places p x held) there,
             λ r goes_too.
                 let same : p ≡ r = let one : Some p ≡ Some r = sym (inverse.back p q there) ∙ inverse.back r q goes_too in cc in
-                let P : Q → Type 0 = λ k. Lies (route_at (back w) q k) (carry (route_at w p q) x) in
-                subst P same (subst (λ v. Lies v (carry (route_at w p q) x)) (sym (keys.turns w p q))
+                let P : Q → Type 0 = λ k. Inside (route_at (back w) q k) (carry (route_at w p q) x) in
+                subst P same (subst (λ v. Inside v (carry (route_at w p q) x)) (sym (keys.turns w p q))
                 (stays (route_at w p q) (keys.is_route w is p q) x (lie.items p q x held there))),
           )))
 
-      -- a map that is carried along lies inside
+      -- a map that is carried along is inside
       pub entries_stay : {with_brought : RouteModel → FinMap R F → FinMap R F → FinMap R F} → BringsBeside fits goes with_brought →
-          AllLie goes route_at fits Lies (back w) (with_brought w m (entries_carried goes route_at carry w m))
+          AllInside goes route_at fits Inside (back w) (with_brought w m (entries_carried goes route_at carry w m))
       entries_stay brings = record {
-        places = brings.inside w is m (entries_carried goes route_at carry w m) (λ q y g. (each_lies q y g).0);
+        places = brings.inside w is m (entries_carried goes route_at carry w m) (λ q y g. (each_is_inside q y g).0);
         items = λ q p y g there.
             let going = inverse.forth p q there in
-            (each_lies q y (sym (brings.beside w is m (entries_carried goes route_at carry w m) p q going) ∙ g)).1 p going;
+            (each_is_inside q y (sym (brings.beside w is m (entries_carried goes route_at carry w m) p q going) ∙ g)).1 p going;
       }
 
   -- the part of an entry that goes somewhere
@@ -77,9 +77,9 @@ module _ {Q : Type 0} {R : Q → Q → Ordering} {fits : Q → Type 0} {goes : R
       get m p ≡ Some x → entry_part goes route_at part w m p ≡ part (route_at w p q) x
   part_there part m p q x there held = λ i. if_there (held i) (λ x. if_there (there i) (λ q. part (route_at w p q) x))
 
-  module _ {F P : Type 0} (carry : RouteModel → F → F) (part : RouteModel → F → Option P) (restore : RouteModel → F → P → F) (Lies : RouteModel → F → Type 0)
-      (comes_back : (v : RouteModel) → IsRoute v → (x : F) → Lies v x → part v x ≡ None → carry (back v) (carry v x) ≡ x)
-      (restores : (v : RouteModel) → IsRoute v → (x : F) → Lies v x → (k : P) → part v x ≡ Some k → restore v (carry v x) k ≡ x)
+  module _ {F P : Type 0} (carry : RouteModel → F → F) (part : RouteModel → F → Option P) (restore : RouteModel → F → P → F) (Inside : RouteModel → F → Type 0)
+      (comes_back : (v : RouteModel) → IsRoute v → (x : F) → Inside v x → part v x ≡ None → carry (back v) (carry v x) ≡ x)
+      (restores : (v : RouteModel) → IsRoute v → (x : F) → Inside v x → (k : P) → part v x ≡ Some k → restore v (carry v x) k ≡ x)
       {with_brought : RouteModel → FinMap R F → FinMap R F → FinMap R F} (brings : BringsBeside fits goes with_brought) where
     -- what is brought in goes nowhere on the way back
     brought_ignored : (parts : Q → Option P) (m carried : FinMap R F) →
@@ -99,7 +99,7 @@ module _ {Q : Type 0} {R : Q → Q → Ordering} {fits : Q → Type 0} {goes : R
         at_key p (Some q) there = ap (λ v. if_there v (λ x. Some (settle q p x))) (brings.beside w is m carried p q there)
 
     -- a map goes back with its lost entries, and with parts that are those of its entries
-    pub entries_return : (m : FinMap R F) → ((p q : Q) (x : F) → get m p ≡ Some x → goes w p ≡ Some q → Lies (route_at w p q) x) →
+    pub entries_return : (m : FinMap R F) → ((p q : Q) (x : F) → get m p ≡ Some x → goes w p ≡ Some q → Inside (route_at w p q) x) →
         (parts : Q → Option P) → ((p q : Q) (x : F) → goes w p ≡ Some q → get m p ≡ Some x → parts p ≡ part (route_at w p q) x) →
         overlaid (lost_map (goes w) m) (entries_restored goes route_at carry restore w parts (with_brought w m (entries_carried goes route_at carry w m))) ≡ m
     entries_return m lie parts kept =
@@ -109,25 +109,25 @@ module _ {Q : Type 0} {R : Q → Q → Ordering} {fits : Q → Type 0} {goes : R
         (λ p q x there held.
         let v : RouteModel = route_at w p q in
         let route_model : IsRoute v = keys.is_route w is p q in
-        let lies : Lies v x = lie p q x held there in
+        let lies : Inside v x = lie p q x held there in
         settles (carry (back v)) (restore v) (carry v x) x (part v x) (parts p) (sym (kept p q x there held)) (comes_back v route_model x lies) (restores v route_model x lies))
 
     -- it is restored from what is kept of it
-    pub entries_restore : (m : FinMap R F) → AllLie goes route_at fits Lies w m → (parts : Q → Option P) → ((p : Q) → parts p ≡ get
+    pub entries_restore : (m : FinMap R F) → AllInside goes route_at fits Inside w m → (parts : Q → Option P) → ((p : Q) → parts p ≡ get
         (entries_parts goes route_at part w m) p) →
         overlaid (lost_map (goes w) m) (entries_restored goes route_at carry restore w parts (with_brought w m (entries_carried goes route_at carry w m))) ≡ m
     entries_restore m lie parts are = entries_return m lie.items parts (λ p q x there held.
         are p ∙ get-parts_map R keys.total keys.exact (goes w) (λ p q x. part (route_at w p q) x) m p ∙ part_there part m p q x there held)
 
-  module _ {F P : Type 0} (part : RouteModel → F → Option P) (Lies : RouteModel → F → Type 0) (Fits : RouteModel → P → Type 0)
-      (part_fits : (v : RouteModel) → IsRoute v → (x : F) → Lies v x → (k : P) → part v x ≡ Some k → Fits v k) where
+  module _ {F P : Type 0} (part : RouteModel → F → Option P) (Inside : RouteModel → F → Type 0) (Fits : RouteModel → P → Type 0)
+      (part_fits : (v : RouteModel) → IsRoute v → (x : F) → Inside v x → (k : P) → part v x ≡ Some k → Fits v k) where
     there_at : (p q : Q) (v : Option F) → goes w p ≡ Some q →
         if_there v (λ x. if_there (goes w p) (λ q. part (route_at w p q) x)) ≡ if_there v (part (route_at w p q))
     there_at p q None there = refl
     there_at p q (Some x) there = ap (λ t. if_there t (λ q. part (route_at w p q) x)) there
 
     -- what is kept of a map can be laid over it
-    pub kept_map_fits : (m : FinMap R F) → AllLie goes route_at fits Lies w m → {S : Q → Q → Ordering} (lost : FinMap S F) → ((p : Q) → get lost p ≡ get
+    pub kept_map_fits : (m : FinMap R F) → AllInside goes route_at fits Inside w m → {S : Q → Q → Ordering} (lost : FinMap S F) → ((p : Q) → get lost p ≡ get
         (lost_map (goes w) m) p) →
         (parts : Q → Option P) → ((p : Q) → parts p ≡ get (entries_parts goes route_at part w m) p) → KeptFits goes route_at fits Fits w lost parts
     kept_map_fits m lie lost lost_are parts are = record {
@@ -140,31 +140,31 @@ module _ {Q : Type 0} {R : Q → Q → Ordering} {fits : Q → Type 0} {goes : R
 
   -- maps of which contracts see what stands for their entries
   module _ {T F : Type 0} (model : FinMap R F → T) (seen : T → FinMap R F) (model_seen : (map : T) → model (seen map) ≡ map) (with_brought : RouteModel → T → T → T)
-      (brings : BringsBeside fits goes (λ w m carried. seen (with_brought w (model m) (model carried)))) (carry : RouteModel → F → F) (Lies : RouteModel → F → Type 0)
-      (map : T) (lie : AllLie goes route_at fits Lies w (seen map)) where
+      (brings : BringsBeside fits goes (λ w m carried. seen (with_brought w (model m) (model carried)))) (carry : RouteModel → F → F) (Inside : RouteModel → F → Type 0)
+      (map : T) (lie : AllInside goes route_at fits Inside w (seen map)) where
     abbrev carried : T
     carried = model (entries_carried goes route_at carry w (seen map))
 
-    pub map_stays : ((v : RouteModel) → IsRoute v → (x : F) → Lies v x → Lies (back v) (carry v x)) → AllLie goes route_at fits Lies (back w) (seen
+    pub map_stays : ((v : RouteModel) → IsRoute v → (x : F) → Inside v x → Inside (back v) (carry v x)) → AllInside goes route_at fits Inside (back w) (seen
         (with_brought w map carried))
-    map_stays stays = subst (λ before. AllLie goes route_at fits Lies (back w) (seen (with_brought w before carried))) (model_seen map)
-        (entries_stay carry Lies stays (seen map) lie brings)
+    map_stays stays = subst (λ before. AllInside goes route_at fits Inside (back w) (seen (with_brought w before carried))) (model_seen map)
+        (entries_stay carry Inside stays (seen map) lie brings)
 
     pub map_goes_back : {P : Type 0} (part : RouteModel → F → Option P) (restore : RouteModel → F → P → F) →
-        ((v : RouteModel) → IsRoute v → (x : F) → Lies v x → part v x ≡ None → carry (back v) (carry v x) ≡ x) →
-        ((v : RouteModel) → IsRoute v → (x : F) → Lies v x → (k : P) → part v x ≡ Some k → restore v (carry v x) k ≡ x) →
+        ((v : RouteModel) → IsRoute v → (x : F) → Inside v x → part v x ≡ None → carry (back v) (carry v x) ≡ x) →
+        ((v : RouteModel) → IsRoute v → (x : F) → Inside v x → (k : P) → part v x ≡ Some k → restore v (carry v x) k ≡ x) →
         (lost : FinMap R F) → lost ≡ lost_map (goes w) (seen map) → (parts : Q → Option P) → ((p : Q) → parts p ≡ get (entries_parts goes route_at part w
         (seen map)) p) →
         model (overlaid lost (entries_restored goes route_at carry restore w parts (seen (with_brought w map carried)))) ≡ map
     map_goes_back part restore comes_back restores lost lost_is parts are =
         (λ j. model (overlaid (lost_is j) (entries_restored goes route_at carry restore w parts (seen (with_brought w (sym (model_seen map) j) carried)))))
-        ∙ ap model (entries_restore carry part restore Lies comes_back restores brings (seen map) lie parts are) ∙ model_seen map
+        ∙ ap model (entries_restore carry part restore Inside comes_back restores brings (seen map) lie parts are) ∙ model_seen map
 
--- a map by place that is carried along lies inside
-pub places_stay : (w : RouteModel) → IsRoute w → {F : Type 0} (carry : RouteModel → F → F) (Lies : RouteModel → F → Type 0) →
-    ((v : RouteModel) → IsRoute v → (x : F) → Lies v x → Lies (back v) (carry v x)) → (m : FinMap position_cmp F) → AllLie place_goes at IsPlace Lies w m →
-    AllLie place_goes at IsPlace Lies (back w) (places_carried carry w m)
-places_stay w is carry Lies stays m lie = entries_stay place_keys w is carry Lies stays m lie (brings_nothing IsPlace place_goes)
+-- a map by place that is carried along is inside
+pub places_stay : (w : RouteModel) → IsRoute w → {F : Type 0} (carry : RouteModel → F → F) (Inside : RouteModel → F → Type 0) →
+    ((v : RouteModel) → IsRoute v → (x : F) → Inside v x → Inside (back v) (carry v x)) → (m : FinMap position_cmp F) → AllInside place_goes at IsPlace Inside w m →
+    AllInside place_goes at IsPlace Inside (back w) (places_carried carry w m)
+places_stay w is carry Inside stays m lie = entries_stay place_keys w is carry Inside stays m lie (brings_nothing IsPlace place_goes)
 
 -- what was given where a test says so, and nothing elsewhere, is what is lost where the test says that keys go
 pub lost_given : {Q X : Type 0} (R : Q → Q → Ordering) {fits : Q → Type 0} {goes : RouteModel → Q → Option Q} {route_at : RouteModel → Q → Q → RouteModel} →

@@ -1,4 +1,4 @@
--- The law of followers for rules: what is carried along stands inside the sheet, and comes back with what is kept.
+-- The law of followers for rules: what is carried along is inside the sheet, and comes back with what is kept.
 use Rattle.std.proofs.Common.{◌≡◌, ℕ, zero, suc, ◌+◌, ◌<◌, true, false, List, [], ◌∷◌, length, map, get_or, Option, Some, None, refl, ap, sym, subst, ◌∙◌, arith}
 use Rattle.std.specs.Prelude.{⊤, IfSome, IsTrue, slice_get, if◌then◌else◌}
 use Rattle.std.specs.List.{All, AllByRecursion, enumerate_from}
@@ -19,21 +19,21 @@ use Rattle.format_rules.specs.declared.CfRule.{CfRule}
 use Rattle.format_rules.specs.declared.ConditionalFormatting.{ConditionalFormatting}
 use Rattle.format_rules.specs.contracts.formatting.ConditionalFormattingPartialEq.TheImpl as equality
 use Rattle.format_rules.specs.Canonical.{IsCanonicalFormatting, AreCanonicalRules}
-use Rattle.format_rules.specs.Fitting.{place_of, StandsOn, StandsInside}
+use Rattle.format_rules.specs.Fitting.{place_of, RuleOn, RuleInside}
 use Rattle.format_rules.specs.RuleTrees.{HasTrees, trees_changed}
 use Rattle.format_rules.specs.laws.FittingLaws.{canonical_still}
 use Rattle.format_rules.specs.laws.RuleEquals.{formatting_equals}
 use Rattle.format_rules.specs.laws.RuleTreeLaws.{changed_have}
 use Rattle.line_routes.specs.MergedCells.{merged_cell_carried}
-use Rattle.line_routes.specs.Trees.{TreeLies, following, tree_carried}
+use Rattle.line_routes.specs.Trees.{TreeInside, following, tree_carried}
 use Rattle.line_routes.specs.Trial.{part_by_trial}
 use Rattle.line_routes.specs.RouteModel.{RouteModel, IsRoute, back}
 use Rattle.line_routes.specs.laws.MergedCellLaws.{merged_cell_stays}
 use Rattle.line_routes.specs.laws.TreeLaws.{tree_placed}
 use Rattle.line_routes.specs.laws.TrialLaws.{trial_comes_back, trial_part}
 use Rattle.line_routes.specs.laws.RouteLaws.{back_is_route}
-use Rattle.line_map.specs.Canonical.{AreCanonicalKept, KeptLie}
-use Rattle.line_map.specs.Rules.{at_part, route_of_trees, formatting_moved, formatting_carried, formatting_part, rules_carried, rules_kept, rules_restored, DoesNotReturn, KeepsRule, RulesLie}
+use Rattle.line_map.specs.Canonical.{AreCanonicalKept, KeptInside}
+use Rattle.line_map.specs.Rules.{at_part, route_of_trees, formatting_moved, formatting_carried, formatting_part, rules_carried, rules_kept, rules_restored, DoesNotReturn, KeepsRule, RulesInside}
 use Rattle.base_maps.specs.Carried.{settled}
 use Rattle.base_maps.specs.ByIndex.{restored_at}
 use Rattle.base_maps.specs.laws.ByIndexLaws.{items_regained, kept_are, kept_within, restored_are}
@@ -41,15 +41,15 @@ use Rattle.base_maps.specs.laws.ByIndexLaws.{items_regained, kept_are, kept_with
 -- ---- one rule
 
 -- the formulas of a rule lie where the map meets them
-pub trees_lie : (w : RouteModel) (parts : List MergedCell) (rule : CfRule) → StandsOn parts rule → HasTrees (TreeLies (route_of_trees w parts)) rule
-trees_lie w [] rule stands = absurd (none stands.first)
+pub trees_are_inside : (w : RouteModel) (parts : List MergedCell) (rule : CfRule) → RuleOn parts rule → HasTrees (TreeInside (route_of_trees w parts)) rule
+trees_are_inside w [] rule stands = absurd (none stands.first)
   where
     none : place_of [] ≡ Some stands.place → ⊥
     none h = cc
-trees_lie w (first ∷ others) rule stands =
+trees_are_inside w (first ∷ others) rule stands =
     let same : anchor_place first ≡ stands.place = some_same stands.first in
-    let LieAt : Position → Type 0 = λ place. HasTrees (λ n. is_placed place n ≡ true) rule in
-    subst LieAt (sym same) stands.trees
+    let InsideAt : Position → Type 0 = λ place. HasTrees (λ n. is_placed place n ≡ true) rule in
+    subst InsideAt (sym same) stands.trees
   where
     some_same : Some (anchor_place first) ≡ Some stands.place → anchor_place first ≡ stands.place
     some_same h = cc
@@ -58,8 +58,8 @@ parts_stay : (w : RouteModel) → IsRoute w → (parts : List MergedCell) → Al
 parts_stay w is parts inside = All-map IsInside (merged_cell_carried w) parts
     (All-weaker IsInside (λ part. IsInside (merged_cell_carried w part)) (merged_cell_stays w is) parts inside)
 
-moved_stands : (w : RouteModel) → IsRoute w → (parts : List MergedCell) (rule : CfRule) → StandsOn parts rule →
-    StandsOn (map (merged_cell_carried w) parts) (trees_changed (tree_carried (route_of_trees w parts)) rule)
+moved_stands : (w : RouteModel) → IsRoute w → (parts : List MergedCell) (rule : CfRule) → RuleOn parts rule →
+    RuleOn (map (merged_cell_carried w) parts) (trees_changed (tree_carried (route_of_trees w parts)) rule)
 moved_stands w is [] rule stands = absurd (none stands.first)
   where
     none : place_of [] ≡ Some stands.place → ⊥
@@ -70,14 +70,14 @@ moved_stands w is (first ∷ others) rule stands =
       place = anchor_place (merged_cell_carried w first);
       first = refl;
       inside = parts_stay w is (first ∷ others) stands.inside;
-      trees = changed_have (TreeLies there) (λ n. is_placed there.to n ≡ true) (tree_carried there)
-          (λ n lies. tree_placed there (record { axis = is.axis; one_to_one = is.one_to_one }) n) rule (trees_lie w (first ∷ others) rule stands);
+      trees = changed_have (TreeInside there) (λ n. is_placed there.to n ≡ true) (tree_carried there)
+          (λ n lies. tree_placed there (record { axis = is.axis; one_to_one = is.one_to_one }) n) rule (trees_are_inside w (first ∷ others) rule stands);
     }
 
--- a rule that is carried along stands inside the sheet
-pub formatting_stays : (w : RouteModel) → IsRoute w → (formatting : ConditionalFormatting) → StandsInside formatting → StandsInside (formatting_carried w formatting)
+-- a rule that is carried along is inside the sheet
+pub formatting_stays : (w : RouteModel) → IsRoute w → (formatting : ConditionalFormatting) → RuleInside formatting → RuleInside (formatting_carried w formatting)
 unfolding formatting_carried
-formatting_stays w is formatting stands = elim w.is_edited as (λ b. StandsInside (if b then formatting_moved w formatting else formatting))
+formatting_stays w is formatting stands = elim w.is_edited as (λ b. RuleInside (if b then formatting_moved w formatting else formatting))
     [ true ↦ moved_stands w is formatting.parts formatting.rule stands | false ↦ stands ]
 
 pub formatting_comes_back : (w : RouteModel) (formatting : ConditionalFormatting) → formatting_part w formatting ≡ None → formatting_carried (back w)
@@ -110,9 +110,9 @@ part_is P w formatting h (Some part) is = subst P (sym (formatting_restores w fo
 
 -- ---- lists of rules
 
-pub rules_stay : (w : RouteModel) → IsRoute w → (rules : List ConditionalFormatting) → RulesLie rules → RulesLie (rules_carried w rules)
-rules_stay w is rules lie = All-map StandsInside (formatting_carried w) rules
-    (All-weaker StandsInside (λ rule. StandsInside (formatting_carried w rule)) (formatting_stays w is) rules lie)
+pub rules_stay : (w : RouteModel) → IsRoute w → (rules : List ConditionalFormatting) → RulesInside rules → RulesInside (rules_carried w rules)
+rules_stay w is rules lie = All-map RuleInside (formatting_carried w) rules
+    (All-weaker RuleInside (λ rule. RuleInside (formatting_carried w rule)) (formatting_stays w is) rules lie)
 
 pub rules_numbers : (w : RouteModel) (rules : List ConditionalFormatting) → AreCanonicalRules rules → AreCanonicalRules (rules_carried w rules)
 rules_numbers w rules all =
@@ -125,12 +125,12 @@ kept_numbers w rules all =
     (λ rule h. part_is IsCanonicalFormatting w rule h (formatting_part w rule) refl) rules
     (recursion_from_All IsCanonicalFormatting rules all)
 
-pub kept_lie : (w : RouteModel) (rules : List ConditionalFormatting) → RulesLie rules → KeptLie (rules_kept w rules)
-kept_lie w rules lie =
-    kept_are (formatting_part w) StandsInside StandsInside (λ rule h. part_is StandsInside w rule h (formatting_part w rule) refl) rules
-    (recursion_from_All StandsInside rules lie)
+pub kept_are_inside : (w : RouteModel) (rules : List ConditionalFormatting) → RulesInside rules → KeptInside (rules_kept w rules)
+kept_are_inside w rules lie =
+    kept_are (formatting_part w) RuleInside RuleInside (λ rule h. part_is RuleInside w rule h (formatting_part w rule) refl) rules
+    (recursion_from_All RuleInside rules lie)
 
--- the rules that come back have canonical numbers, and stand inside, where those do that were kept
+-- the rules that come back have canonical numbers, and are inside, where those do that were kept
 pub restored_numbers : (w : RouteModel) (kept : FinMap nat_cmp ConditionalFormatting) → AreCanonicalKept kept → (rules : List ConditionalFormatting) →
     AreCanonicalRules rules →
     AreCanonicalRules (rules_restored w kept rules)
@@ -139,12 +139,12 @@ restored_numbers w kept numbers rules all =
     (restored_are (formatting_carried (back w)) (λ _ own. own) IsCanonicalFormatting IsCanonicalFormatting IsCanonicalFormatting (formatting_numbers (back w)) (λ _ own h. h) (get kept) numbers rules
     (recursion_from_All IsCanonicalFormatting rules all))
 
-pub restored_lie : (w : RouteModel) → IsRoute w → (kept : FinMap nat_cmp ConditionalFormatting) → KeptLie kept → (rules : List ConditionalFormatting) →
-    RulesLie rules → RulesLie (rules_restored w kept rules)
-restored_lie w is kept inside rules lie =
-    All-from_recursion StandsInside (rules_restored w kept rules)
-    (restored_are (formatting_carried (back w)) (λ _ own. own) StandsInside StandsInside StandsInside (formatting_stays (back w) (back_is_route w is)) (λ _ own h. h) (get kept) inside rules
-    (recursion_from_All StandsInside rules lie))
+pub restored_are_inside : (w : RouteModel) → IsRoute w → (kept : FinMap nat_cmp ConditionalFormatting) → KeptInside kept → (rules : List ConditionalFormatting) →
+    RulesInside rules → RulesInside (rules_restored w kept rules)
+restored_are_inside w is kept inside rules lie =
+    All-from_recursion RuleInside (rules_restored w kept rules)
+    (restored_are (formatting_carried (back w)) (λ _ own. own) RuleInside RuleInside RuleInside (formatting_stays (back w) (back_is_route w is)) (λ _ own h. h) (get kept) inside rules
+    (recursion_from_All RuleInside rules lie))
 
 nothing_known : (rules : List ConditionalFormatting) → AllByRecursion (λ _. ⊤) rules
 nothing_known [] = tt

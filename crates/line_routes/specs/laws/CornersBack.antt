@@ -28,7 +28,7 @@ exposing w exposed = record w { is_edited = exposed }
 pub exposing_is_route : (w : RouteModel) → IsRoute w → (b : Bool) → IsRoute (exposing w b)
 exposing_is_route w is b = record { axis = is.axis; one_to_one = is.one_to_one }
 
--- a corner that lies inside goes where its place goes
+-- a corner that is inside goes where its place goes
 pub target_goes : (w : RouteModel) (b : Bool) (corner : Corner) → is_inside w.from corner ≡ true →
     target w b corner ≡ place_goes (exposing w b) (place_of w.from corner)
 unfolding target corner_at place_goes
@@ -39,9 +39,9 @@ pub moved_goes : (w : RouteModel) (b : Bool) (corner : Corner) → is_inside w.f
     moved_corner w b corner ≡ if_there (place_goes (exposing w b) (place_of w.from corner)) (λ place. Some (corner_of w.to corner place))
 moved_goes w b corner h = ap (λ o. if_there o (λ place. Some (corner_of w.to corner place))) (target_goes w b corner h)
 
-pub stands_inside : (formula : Position) (corner : Corner) → is_inside formula corner ≡ true → IsPlace (place_of formula corner)
+pub corner_place_inside : (formula : Position) (corner : Corner) → is_inside formula corner ≡ true → IsPlace (place_of formula corner)
 unfolding is_inside
-stands_inside formula corner h = parts (corner_row formula corner) (corner_column formula corner) h
+corner_place_inside formula corner h = parts (corner_row formula corner) (corner_column formula corner) h
   where
     parts : (row column : ℤ) → is_line (pos 1048576) row && is_line (pos 16384) column ≡ true → IsPlace (record { row = row; column = column })
     parts row column e = ((grind (arith, ints), grind (arith, ints)), (grind (arith, ints), grind (arith, ints)))
@@ -255,10 +255,10 @@ module _ (w : RouteModel) (is : IsRoute w) (b : Bool) (first second : Corner) (r
   image_of p q h e = let P : Option Position → Type 0 = λ o. IfSome o IsPlace in subst P e (goes_inside (exposing w b) (exposing_is_route w is b) p h)
 
   pub first_image : IsPlace r
-  first_image = image_of (place_of w.from first) r (stands_inside w.from first first_inside) goes_first
+  first_image = image_of (place_of w.from first) r (corner_place_inside w.from first first_inside) goes_first
 
   pub second_image : IsPlace s
-  second_image = image_of (place_of w.from second) s (stands_inside w.from second second_inside) goes_second
+  second_image = image_of (place_of w.from second) s (corner_place_inside w.from second second_inside) goes_second
 
   source_of : (p q : Position) → place_goes (exposing w b) p ≡ Some q → place_goes (exposing (back w) b) q ≡ Some p
   source_of p q e = (goes_inverse (exposing w b) (exposing_is_route w is b)).back p q e
@@ -271,7 +271,7 @@ module _ (w : RouteModel) (is : IsRoute w) (b : Bool) (first second : Corner) (r
   unfolding higher_corner
   higher_is = crossed_of w.to rows_exchanged columns_exchanged second first s r
 
-  -- the two corners lie inside
+  -- the two corners are inside
   pub lower_inside : is_inside w.to lower_there ≡ true
   lower_inside = ap (is_inside w.to) lower_is ∙ landed w.to first_back (Some (mixed rows_exchanged columns_exchanged r s))
       (mixed_inside rows_exchanged columns_exchanged r s first_image second_image)

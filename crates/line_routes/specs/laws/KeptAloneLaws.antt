@@ -12,7 +12,7 @@ use Rattle.line_routes.specs.EditRoute.{edit_route}
 use Rattle.formula_tree.specs.declared.Node.{Node}
 use Rattle.line_routes.specs.contracts.tree_at.TreeAtPartialEq.TheImpl as equality
 use Rattle.line_routes.specs.MustKeep.{must_keep_between, must_keep_tree, must_keep_at, there_and_back}
-use Rattle.line_routes.specs.TreeAt.{tree_goes, tree_at_moved, tree_at_carried, tree_at_part, route_on_tree, route_of_tree, TreeAtLies}
+use Rattle.line_routes.specs.TreeAt.{tree_goes, tree_at_moved, tree_at_carried, tree_at_part, route_on_tree, route_of_tree, TreeAtInside}
 use Rattle.line_routes.specs.Trees.{target, is_exposed, tree_carried}
 use Rattle.line_routes.specs.Trial.{part_by_trial}
 use Rattle.line_routes.specs.RouteModel.{RouteModel, IsRoute, back, place_goes}
@@ -26,7 +26,7 @@ opposite_carries : (a : Along) (e : EditKind) (t : TreeAt) → tree_at_carried (
 unfolding tree_at_carried tree_goes place_goes tree_carried target is_exposed
 opposite_carries a e t = refl
 
-module _ (w : RouteModel) (is : IsRoute w) (t : TreeAt) (lies : TreeAtLies t) where
+module _ (w : RouteModel) (is : IsRoute w) (t : TreeAt) (lies : TreeAtInside t) where
   comes_from : (to : Position) → tree_goes w t ≡ Some to → tree_goes (back w) (record t { node = tree_carried (route_of_tree w t to) t.node; place = to })
       ≡ Some t.place
   unfolding tree_goes
@@ -68,7 +68,7 @@ module _ (w : RouteModel) (is : IsRoute w) (t : TreeAt) (lies : TreeAtLies t) wh
       let same : returned.node ≡ node_back to = ap (λ (x : TreeAt). x.node) (returns to h) in
       Decides-like _ (λ s. same ∙ s) (λ s. sym same ∙ s) (node_told to)
 
-pub kept_alone : (a : Along) → IsAxis a → (e : EditKind) → IsValid a.last e → (t : TreeAt) → TreeAtLies t → is_some (tree_goes (edit_route a e) t) ≡ true →
+pub kept_alone : (a : Along) → IsAxis a → (e : EditKind) → IsValid a.last e → (t : TreeAt) → TreeAtInside t → is_some (tree_goes (edit_route a e) t) ≡ true →
     Decides (not (must_keep_at a e t)) ((there_and_back a e t).node ≡ t.node)
 unfolding must_keep_tree there_and_back
 kept_alone a lawful e valid t lies survives =

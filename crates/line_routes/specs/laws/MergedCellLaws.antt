@@ -37,7 +37,7 @@ moved_inside cell h (Some p) (Some q) i j = between_inside p q i j
 moved_inside cell h (Some p) None i j = h
 moved_inside cell h None w i j = h
 
--- a rectangle that is carried along lies inside
+-- a rectangle that is carried along is inside
 pub merged_cell_stays : (w : RouteModel) → IsRoute w → (cell : MergedCell) → IsInside cell → IsInside (merged_cell_carried w cell)
 unfolding merged_cell_carried
 merged_cell_stays w is cell h = moved_inside cell h _ _ (goes_inside w is _ h.first) (goes_inside w is _ h.last)

@@ -15,7 +15,7 @@ use Rattle.line_edits.specs.laws.Images.{move_image, move_parts}
 use Rattle.line_routes.specs.MustKeep.{keeps_reference, is_given_up, keeps_range, BecomesWhole, is_move}
 use Rattle.line_routes.specs.Trees.{corner_of, is_exposed, is_on_edited, moved_corner}
 use Rattle.line_routes.specs.RouteModel.{RouteModel, IsRoute, place_goes}
-use Rattle.line_routes.specs.laws.CornersBack.{place_of, moved_goes, stands_inside}
+use Rattle.line_routes.specs.laws.CornersBack.{place_of, moved_goes, corner_place_inside}
 
 -- every line of the axis has an image
 abbrev pub LosesNone : RouteModel → Type 0
@@ -51,7 +51,7 @@ module _ (w : RouteModel) (is : IsRoute w) (none : LosesNone w) where
       let p : Position = place_of w.from corner in
       ap is_some (moved_goes w true corner inside)
       ∙ carried corner (at_line w.along p (w.moves.to (w.along.line p)))
-      (put p (w.moves.to (w.along.line p)) (none (w.along.line p) (is.axis.line_inside p (stands_inside w.from corner inside))))
+      (put p (w.moves.to (w.along.line p)) (none (w.along.line p) (is.axis.line_inside p (corner_place_inside w.from corner inside))))
 
   -- no reference has to be kept
   pub references_stay : (sheet : Option (List ℕ)) (corner : Corner) → is_inside w.from corner ≡ true → keeps_reference w sheet corner ≡ false

@@ -20,7 +20,7 @@ use Rattle.formula_tree.specs.Placed.{is_placed_range}
 use Rattle.formula_back.specs.laws.LeafLaws.{same_layers, TellsLeaves, tells_trees}
 use Rattle.formula_back.specs.laws.StillLaws.{still_passes_none}
 use Rattle.line_routes.specs.MustKeep.{keeps_reference, is_given_up, keeps_range, kept_leaves, must_keep}
-use Rattle.line_routes.specs.Trees.{corner_of, is_exposed, is_on_edited, is_whole, moved_corner, following, tree_carried, tree_part, ComesBack, TreeLies}
+use Rattle.line_routes.specs.Trees.{corner_of, is_exposed, is_on_edited, is_whole, moved_corner, following, tree_carried, tree_part, ComesBack, TreeInside}
 use Rattle.line_routes.specs.RouteModel.{RouteModel, IsRoute, back, place_goes}
 use Rattle.line_routes.specs.laws.CornersBack.{place_of, exposing, exposing_is_route, moved_goes, home, lower_there, higher_there, first_image}
 use Rattle.line_routes.specs.laws.CornersBack.{lower_inside, higher_inside, lower_goes_back, higher_goes_back, lower_again, higher_again, order_stays}
@@ -273,13 +273,13 @@ module _ (w : RouteModel) (is : IsRoute w) where
     no_name = λ name. refl;
   }
 
-  -- there and back gives a formula whose corners lie inside and in order exactly where it has not to be kept
-  pub kept_exactly : (tree : Node) → TreeLies w tree → Decides (not (must_keep w tree)) (ComesBack w tree)
+  -- there and back gives a formula whose corners are inside and in order exactly where it has not to be kept
+  pub kept_exactly : (tree : Node) → TreeInside w tree → Decides (not (must_keep w tree)) (ComesBack w tree)
   unfolding must_keep tree_carried
   kept_exactly tree lies = tells_trees w.from w.to (following w) (following (back w)) (kept_leaves w) leaves_told tree lies
 
   -- so what is kept of a tree is the tree, where it has to be kept
-  pub part_by_corners : (tree : Node) → TreeLies w tree → tree_part w tree ≡ (if must_keep w tree then Some tree else None)
+  pub part_by_corners : (tree : Node) → TreeInside w tree → tree_part w tree ≡ (if must_keep w tree then Some tree else None)
   part_by_corners tree lies =
       trial_told (same_value the_row.coded) tree_carried (same_value_decides the_row.coded) w tree (must_keep w tree) (kept_exactly tree lies)
 
@@ -319,5 +319,5 @@ still_is_not_kept w tree = still_passes_none w.to (following w) (kept_leaves w) 
 }) tree
 
 -- so nothing is kept of it
-pub still_has_no_part : (w : RouteModel) → IsRoute w → (tree : Node) → TreeLies w tree → tree_carried w tree ≡ tree → tree_part w tree ≡ None
+pub still_has_no_part : (w : RouteModel) → IsRoute w → (tree : Node) → TreeInside w tree → tree_carried w tree ≡ tree → tree_part w tree ≡ None
 still_has_no_part w is tree lies still = part_by_corners w is tree lies ∙ ap (λ b. if b then Some tree else None) (still_is_not_kept w tree still)

@@ -5,7 +5,7 @@ use Rattle.base_values.specs.declared.Position.{Position}
 use Rattle.base_values.specs.Places.{IsPlace}
 use Rattle.line_routes.specs.declared.tree_at.TreeAt.{TreeAt}
 use Rattle.line_routes.specs.contracts.tree_at.TreeAtPartialEq.TheImpl as equality
-use Rattle.line_routes.specs.TreeAt.{tree_goes, route_on_tree, route_of_tree, tree_at_moved, tree_at_carried, tree_at_part, TreeAtLies}
+use Rattle.line_routes.specs.TreeAt.{tree_goes, route_on_tree, route_of_tree, tree_at_moved, tree_at_carried, tree_at_part, TreeAtInside}
 use Rattle.line_routes.specs.RouteModel.{RouteModel, IsRoute, back}
 use Rattle.line_routes.specs.laws.TreeAtEquals.{tree_at_equals}
 use Rattle.line_routes.specs.laws.TreeLaws.{tree_placed}
@@ -16,17 +16,17 @@ cell_inside : (w : RouteModel) → IsRoute w → (t : TreeAt) → IsPlace t.plac
 unfolding tree_goes
 cell_inside w is t h = goes_inside (route_on_tree w t) (record { axis = is.axis; one_to_one = is.one_to_one }) t.place h
 
-moved_lies : (w : RouteModel) → IsRoute w → (t : TreeAt) → TreeAtLies t → (o : Option Position) → IfSome o IsPlace → TreeAtLies (tree_at_moved w t o)
-moved_lies w is t lies None h = lies
-moved_lies w is t lies (Some to) h = record {
+moved_is_inside : (w : RouteModel) → IsRoute w → (t : TreeAt) → TreeAtInside t → (o : Option Position) → IfSome o IsPlace → TreeAtInside (tree_at_moved w t o)
+moved_is_inside w is t lies None h = lies
+moved_is_inside w is t lies (Some to) h = record {
   place = h;
   corners = tree_placed (route_of_tree w t to) (record { axis = is.axis; one_to_one = is.one_to_one }) t.node;
 }
 
--- a tree that is carried along lies inside
-pub tree_at_stays : (w : RouteModel) → IsRoute w → (t : TreeAt) → TreeAtLies t → TreeAtLies (tree_at_carried w t)
+-- a tree that is carried along is inside
+pub tree_at_stays : (w : RouteModel) → IsRoute w → (t : TreeAt) → TreeAtInside t → TreeAtInside (tree_at_carried w t)
 unfolding tree_at_carried
-tree_at_stays w is t lies = moved_lies w is t lies _ (cell_inside w is t lies.place)
+tree_at_stays w is t lies = moved_is_inside w is t lies _ (cell_inside w is t lies.place)
 
 -- what a value is kept for that goes nowhere, or else by trial
 nothing_at : (t : TreeAt) (o : Option Position) (tried : Option TreeAt) → (if is_none o then Some t else tried) ≡ None → tried ≡ None

@@ -15,7 +15,7 @@ use Rattle.formula_tree.specs.Placed.{is_placed}
 use Rattle.formula_tree.specs.laws.PlacedLaws.{placed-moved}
 use Rattle.base_maps.specs.Carried.{if_there}
 use Rattle.line_edits.specs.Moves.{place_image}
-use Rattle.line_routes.specs.Trees.{corner_of, target, following, tree_carried, tree_part, TreeLies}
+use Rattle.line_routes.specs.Trees.{corner_of, target, following, tree_carried, tree_part, TreeInside}
 use Rattle.line_routes.specs.RouteModel.{RouteModel, IsRoute, back}
 use Rattle.line_routes.specs.laws.TrialLaws.{trial_comes_back, trial_part}
 use Rattle.line_edits.specs.laws.PlaceLaws.{image_inside}
@@ -41,7 +41,7 @@ target_inside w is false corner = corner_inside w.from corner
 are_lines : (row column : ℤ) → IsRow row → IsColumn column → (is_line (pos 1048576) row && is_line (pos 16384) column) ≡ true
 are_lines row column h i = let a = h.0 in let b = h.1 in let c = i.0 in let d = i.1 in grind (arith, ints)
 
--- a corner that lands on a place of the sheet lies inside
+-- a corner that lands on a place of the sheet is inside
 pub landed : (to : Position) (corner : Corner) (o : Option Position) → IfSome o IsPlace →
     IfSome (if_there o (λ place. Some (corner_of to corner place))) (λ c. is_inside to c ≡ true)
 unfolding is_inside
@@ -51,7 +51,7 @@ landed to corner (Some place) h =
     (corner_column-corner_to to corner.absolute_row corner.absolute_column place i))
     ∙ are_lines place.row place.column h.0 h.1
 
--- the corners of a tree that is carried along lie inside the sheet, and those of each range are in order
+-- the corners of a tree that is carried along are inside the sheet, and those of each range are in order
 pub tree_placed : (w : RouteModel) → IsRoute w → (tree : Node) → is_placed w.to (tree_carried w tree) ≡ true
 unfolding tree_carried
 tree_placed w is tree = placed-moved true w.from w.to (following w) (record {
@@ -60,7 +60,7 @@ tree_placed w is tree = placed-moved true w.from w.to (following w) (record {
   second = λ sheet first second _. landed w.to second _ (target_inside w is _ second);
 }) tree refl
 
-pub tree_stays : (w : RouteModel) → IsRoute w → (tree : Node) → TreeLies (back w) (tree_carried w tree)
+pub tree_stays : (w : RouteModel) → IsRoute w → (tree : Node) → TreeInside (back w) (tree_carried w tree)
 tree_stays w is tree = tree_placed w is tree
 
 pub tree_comes_back : (w : RouteModel) (tree : Node) → tree_part w tree ≡ None → tree_carried (back w) (tree_carried w tree) ≡ tree

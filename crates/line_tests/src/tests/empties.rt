@@ -16,7 +16,7 @@ fn stays<A: Axis, F: Follow<A> + PartialEq>(
     value: &F,
 ) -> Result<bool, EditError>
     requires valid { IsValid A.along.last edit.now.kind }
-    requires lies { F.Lies edit.now.kind value.now }
+    requires lies { F.Inside edit.now.kind value.now }
 {
     let followed = value.follow(alloc, edit)?;
     let back = there_and_back(alloc, value, edit)?;

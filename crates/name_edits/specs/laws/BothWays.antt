@@ -25,7 +25,7 @@ use Rattle.sheet_rules.specs.WellFormed.{IsWellFormed}
 use Rattle.sheet_rules.specs.laws.WellFormedLaws.{well_formed_parts, distinct_ids_from_well_formed}
 use Rattle.sheet_ids.specs.Ids.{sheet_of}
 use Rattle.book_names.specs.declared.KeptTrees.{KeptTrees}
-use Rattle.book_names.specs.RenameDiffs.{stand_on_places, stand_on_parts, lie_in_sheets, own_place, tree_stands, formulas_stand}
+use Rattle.book_names.specs.RenameDiffs.{stand_on_places, stand_on_parts, are_in_sheets, own_place, tree_stands, formulas_stand}
 use Rattle.book_names.specs.RenameDiffs.{names_stand, formatting_stands, formattings_stand, may_stand}
 use Rattle.book_names.specs.laws.Entries.{none_fails}
 use Rattle.book_names.specs.laws.Stands.{HasLater, kept_on_places, kept_on_parts, kept_stand_later, kept_rules_stand_later, kept_tree_fits, kept_rule_fits}
@@ -66,7 +66,7 @@ no_rules_stand book = none_fails sheet_index_cmp sheet_index_total exact_sheet_i
 nothing_kept : keeps_nothing (record { formulas = empty; names = empty; formattings = empty }) ≡ true
 nothing_kept = λ i. (len-empty sheet_place_cmp Node i == 0) && (len-empty nat_cmp Node i == 0) && (len-empty sheet_index_cmp ConditionalFormatting i == 0)
 
-none_in_sheets : lie_in_sheets (record { formulas = empty; names = empty; formattings = empty }) ≡ true
+none_in_sheets : are_in_sheets (record { formulas = empty; names = empty; formattings = empty }) ≡ true
 none_in_sheets = λ i. none_on_places i && none_on_parts i
 
 either : (a b : Bool) → b ≡ true → (a || b) ≡ true
@@ -86,14 +86,14 @@ pub record IsMade (index : ℕ) (old new : Option DefinedName) (book : Book) : T
   pub fits : comes_fitting (change_at index old new) ≡ true
 
 module _ (index : ℕ) (book : Book) where
-  -- what is kept lies inside its sheets, and is nothing but of a replacement
-  lies_now : (old new : Option DefinedName) → IsWellFormed book → lie_in_sheets (trees_lost (change_at index old new) book) ≡ true
-  lies_now (Some old) (Some new) rules =
+  -- what is kept is inside its sheets, and is nothing but of a replacement
+  inside_now : (old new : Option DefinedName) → IsWellFormed book → are_in_sheets (trees_lost (change_at index old new) book) ≡ true
+  inside_now (Some old) (Some new) rules =
       let there = reach_at index old.name book.names in
       let back = reach_at index new.name (names_changed (change_at index (Some old) (Some new)) book.names) in
       λ i. kept_on_places there back old.name new.name book rules i && kept_on_parts there back old.name new.name book rules i
-  lies_now (Some old) None rules = none_in_sheets
-  lies_now None new rules = none_in_sheets
+  inside_now (Some old) None rules = none_in_sheets
+  inside_now None new rules = none_in_sheets
 
   kept_of_replacement : (old new : Option DefinedName) → (is_some old && is_some new) || keeps_nothing (trees_lost (change_at index old new) book) ≡ true
   kept_of_replacement (Some old) (Some new) = refl
@@ -168,7 +168,7 @@ module _ (index : ℕ) (book : Book) where
   pub may_go : (old new : Option DefinedName) → IsMade index old new book → goes_forward (change_at index old new) (trees_lost (change_at index old new) book) book ≡ true
   unfolding goes_forward
   may_go old new output = λ i.
-      output.some i && place_before index old new book.names output.at i && output.fits i && kept_of_replacement old new i && lies_now old new output.rules i
+      output.some i && place_before index old new book.names output.at i && output.fits i && kept_of_replacement old new i && inside_now old new output.rules i
 
   -- and taken back
   pub may_go_back : (old new : Option DefinedName) → IsMade index old new book
@@ -178,7 +178,7 @@ module _ (index : ℕ) (book : Book) where
       let kept : KeptTrees = trees_lost (change_at index old new) book in
       λ i.
       (turned (is_some new) (is_some old) ∙ output.some) i && place_later index old new book.names output.at i && old_fits old new output.rules output.at i
-      && (ap (λ b. b || keeps_nothing kept) (both_turned (is_some new) (is_some old)) ∙ kept_of_replacement old new) i && lies_now old new output.rules i
+      && (ap (λ b. b || keeps_nothing kept) (both_turned (is_some new) (is_some old)) ∙ kept_of_replacement old new) i && inside_now old new output.rules i
       && stands_later old new output.rules output.at i
 
   -- the diff leads to the later workbook and back

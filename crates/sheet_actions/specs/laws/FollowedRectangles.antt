@@ -94,7 +94,7 @@ module _ (goes : Position → Option Position) (came : Position → Position) (c
       at_holds true is false at = absurd (let never : true ≡ false = sym (λ i. held is i && not (elsewhere at i)) ∙ none in cc)
 
   module _ (sheet after : Sheet) (good : MergedCell → Bool) (g : MergedCell → Option MergedCell) (f : HasFollowed goes came sheet after good g) where
-    -- each array lies inside, and large ones do not meet
+    -- each array is inside, and large ones do not meet
     pub arrays_follow : KeepsArrays sheet → KeepsArrays after
     arrays_follow h = record {
       inside = λ q s at. inside_passes s (f.arrays q s at).follows.inside;

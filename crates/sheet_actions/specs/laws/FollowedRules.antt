@@ -123,7 +123,7 @@ module _ (w : RouteModel) (is : IsRoute w) where
       (ap (λ n. not (n == 0)) (same_count rule.parts) ∙ left (not (length rule.parts == 0)) (list_all is_inside rule.parts) h)
       (all_follow is_inside (merged_cell_carried w) part_follows rule.parts (right (not (length rule.parts == 0)) (list_all is_inside rule.parts) h))
 
-  -- its parts lie inside
+  -- its parts are inside
   rule_parts_follow : (rule : ConditionalFormatting) → has_parts rule ≡ true → has_parts (formatting_carried w rule) ≡ true
   unfolding formatting_carried
   rule_parts_follow rule h = elim w.is_edited as (λ b. has_parts (if b then formatting_moved w rule else rule) ≡ true)

@@ -25,7 +25,7 @@ use Rattle.line_routes.specs.laws.RouteLaws.{at_is_route}
 use Rattle.sheet_grid.specs.contracts.line_attr.LineAttrPartialEq.TheImpl as attribute
 use Rattle.sheet_grid.specs.declared.LineAttr.{LineAttr}
 use Rattle.sheet_grid.specs.Sheet.{Sheet}
-use Rattle.sheet_rules.specs.WellFormed.{stands_inside, have_trees, have_attributes, is_row, is_column, has_font}
+use Rattle.sheet_rules.specs.WellFormed.{has_keys_inside, have_trees, have_attributes, is_row, is_column, has_font}
 use Rattle.sheet_rules.specs.laws.EntryLaws.{both}
 use Rattle.sheet_rules.specs.laws.InsideLaws.{lines_from_test, test_from_lines}
 use Rattle.sheet_lines.specs.Followed.{sheet_followed}
@@ -63,9 +63,9 @@ module _ (w : RouteModel) (is : IsRoute w) where
   lines_follow b lawful m h = test_from_lines b.last (lines_carried b attribute.ghosts.eq w m) (lines_stay w is b lawful attribute.ghosts.eq m (lines_from_test b.last m h))
 
   module _ (sheet : Sheet) where
-    -- what it has stands inside
-    pub inside_stay : stands_inside sheet ≡ true → stands_inside (sheet_followed w sheet) ≡ true
-    unfolding stands_inside
+    -- what it has is inside
+    pub inside_stay : has_keys_inside sheet ≡ true → has_keys_inside (sheet_followed w sheet) ≡ true
+    unfolding has_keys_inside
     inside_stay h =
         let tests = both _ _ h in
         let others = both _ _ tests.0 in

@@ -14,7 +14,7 @@ use Rattle.line_edits.specs.laws.OneToOne.{edit_one_to_one}
 use Rattle.sheet_rules.specs.Names.{are_names}
 use Rattle.sheet_rules.specs.SheetNames.{is_sheet_name}
 use Rattle.sheet_rules.specs.laws.EntryLaws.{both}
-use Rattle.sheet_rules.specs.WellFormed.{are_distinct, ids_of, names_of, are_sheets, stands_inside, have_trees, have_rule_trees, have_attributes, are_frozen, have_rule_parts, IsWellFormed}
+use Rattle.sheet_rules.specs.WellFormed.{are_distinct, ids_of, names_of, are_sheets, has_keys_inside, have_trees, have_rule_trees, have_attributes, are_frozen, have_rule_parts, IsWellFormed}
 use Rattle.sheet_rules.specs.laws.WellFormedLaws.{well_formed_parts, well_formed_from_parts, distinct_ids_from_well_formed}
 use Rattle.sheet_rules.specs.Occupied.{have_arrays, have_merges, are_hidden_blank}
 use Rattle.sheet_lines.specs.Followed.{edited_route, route_of, sheet_followed, sheets_followed, book_followed}
@@ -79,7 +79,7 @@ followed_well_formed a lawful e valid id book h allowed =
     well_formed_from_parts (book_followed a e id book)
     (record {
       sheets = sheets_stay a m id edited book.worksheets ∙ rules.sheets;
-      inside = all_follow stands_inside f (λ sheet. inside_stay (route_of a m id edited sheet) (is sheet) sheet) book.worksheets rules.inside;
+      inside = all_follow has_keys_inside f (λ sheet. inside_stay (route_of a m id edited sheet) (is sheet) sheet) book.worksheets rules.inside;
       arrays = kept.arrays;
       merges = kept.merges;
       hidden = kept.hidden;

@@ -83,7 +83,7 @@ module _ (a : Along) (is : IsAxis a) (kind : EditKind) where
 pub by_axis : (P : Along → Type 0) → P rows → P columns → (a : Along) → IsAxis a → P a
 by_axis P of_rows of_columns a is = ⊎_elim (λ e. subst P (sym e) of_rows) (λ e. subst P (sym e) of_columns) is.one_of
 
--- a rectangle that follows another one: it lies inside, its places came from that one's, and it begins where that one's first place goes
+-- a rectangle that follows another one: it is inside, its places came from that one's, and it begins where that one's first place goes
 pub record Follows (goes : Position → Option Position) (came : Position → Position) (r s : MergedCell) : Type 0 where
   pub inside : IsInside s
   pub from : CameFrom came r s

@@ -35,7 +35,7 @@ le_test m n h = grind (arith, ints)
 le_from : (m n : ℤ) → int_le m n ≡ true → m ≤ℤ n
 le_from m n h = grind (arith, ints)
 
--- what lies inside reaches its own last line
+-- what is inside reaches its own last line
 reaches : (last first count : ℤ) → pos 1 ≤ℤ count → last_of first count ≤ℤ last → reached last first count ≡ last_of first count
 reaches last first count some inside = grind (arith, ints)
 
@@ -60,7 +60,7 @@ module _ (a : Along) (is : IsAxis a) (sheet : Sheet) where
       by_axis (λ b. end_of b (extent_at (record { row = r.row; column = r.column }) (Some r)) ≡ last_line b r)
       (reaches (pos 1048576) r.row r.height inside.high inside.last.0.1) (reaches (pos 16384) r.column r.width inside.wide inside.last.1.1) a is
 
-  -- an array that lies inside does not end behind it
+  -- an array that is inside does not end behind it
   pub array_ends : (place : Position) (cell : Cell) (r : MergedCell) → get sheet.cells place ≡ Some cell → array_at place cell.content ≡ Some r → place ≡ record { row = r.row; column = r.column } → IsInside r →
       last_line a r ≤ℤ greatest_line a sheet
   array_ends place cell r held shows at inside =

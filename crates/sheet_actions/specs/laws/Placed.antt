@@ -1,4 +1,4 @@
--- The corners of the formulas of a well-formed workbook lie inside the sheet, so do its merges, and its conditional rules stand inside.
+-- The corners of the formulas of a well-formed workbook are inside the sheet, so do its merges, and its conditional rules are inside.
 use Rattle.std.proofs.Common.{◌≡◌, true, List, [], ◌∷◌, Option, Some, None, ap, sym, ◌∙◌}
 use Rattle.std.specs.Prelude.{IfSome}
 use Rattle.std.specs.List.{list_all, AllByRecursion}
@@ -28,7 +28,7 @@ unfolding tree_fits_at
 tree_placed place None fits = tt
 tree_placed place (Some tree) fits = (both _ _ (both _ _ fits).0).0
 
--- a merge of two cells or more that lies inside lies inside
+-- a merge of two cells or more that is inside is inside
 merges_inside : (merges : List MergedCell) → list_all is_merge merges ≡ true → AllByRecursion IsInside merges
 merges_inside [] h = tt
 merges_inside (merge ∷ merges) h =

@@ -1,4 +1,4 @@
--- Lines and places of a source and a target that lie inside the sheet.
+-- Lines and places of a source and a target that are inside the sheet.
 use Rattle.std.proofs.Common.{◌≡◌, ◌⊎◌, inl, inr, ℕ, ◌<◌, ◌≤◌, ℤ, pos, ◌+ℤ◌, ◌≤ℤ◌, Bool, true, false, sym, subst, arith}
 use Rattle.std.proofs.lemmas.Int.{ints}
 use Rattle.std.specs.Prelude.{unsigned_abs}
@@ -57,7 +57,7 @@ module _ (a : Along) (is : IsAxis a) (r : MergedCell) (inside : IsInside r) wher
   pub line_stands : (n : ℕ) → n < lines a r → (first_line a r +ℤ pos n) ≤ℤ last_line a r
   line_stands n below = let same = lines_is in omega (arith, ints)
 
-  -- its lines lie inside the sheet, which has at most so many
+  -- its lines are inside the sheet, which has at most so many
   pub first_low : pos 1 ≤ℤ first_line a r
   first_low = (first_inside a is r inside).0
 

@@ -27,7 +27,7 @@ use Rattle.sheet_fill.specs.Plans.{plan_of, planned_in}
 abbrev pub line_beside : Along → FillRange → ℤ
 line_beside a f = if f.is_behind then last_line a f.source +ℤ pos 1 else first_line a f.source -ℤ pos 1
 
--- source and target lie inside the sheet, side by side, on the same cross lines
+-- source and target are inside the sheet, side by side, on the same cross lines
 pub record IsBeside (a : Along) (f : FillRange) : Type 0 where
   pub source : IsInside f.source
   pub target : IsInside f.target

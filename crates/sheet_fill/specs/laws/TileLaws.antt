@@ -9,7 +9,7 @@ use Rattle.base_values.specs.declared.Position.{Position}
 use Rattle.base_values.specs.Places.{same_position}
 use Rattle.base_axis.specs.declared.MergedCell.{MergedCell}
 use Rattle.base_axis.specs.Along.{Along, IsAxis}
-use Rattle.base_axis.specs.Rectangles.{IsInside, anchor_place, first_line, holds, is_between, last_column, last_line, last_of, last_row, lies_within, line_count, meets, overlap}
+use Rattle.base_axis.specs.Rectangles.{IsInside, anchor_place, first_line, holds, is_between, last_column, last_line, last_of, last_row, is_inside_of, line_count, meets, overlap}
 use Rattle.base_axis.specs.laws.RectangleLaws.{holds_along, holds_found, holds_passes, meets_along, meets_found, meets_passes}
 use Rattle.sheet_fill.specs.declared.range.FillRange.{FillRange}
 use Rattle.sheet_fill.specs.FillRanges.{counted_line, lines, source_line, source_place, target_line}
@@ -34,8 +34,8 @@ pub record Within (r s : MergedCell) : Type 0 where
   pub column_low : s.column ≤ℤ r.column
   pub column_high : last_column r ≤ℤ last_column s
 
-pub within_found : (r s : MergedCell) → lies_within r s ≡ true → Within r s
-unfolding lies_within
+pub within_found : (r s : MergedCell) → is_inside_of r s ≡ true → Within r s
+unfolding is_inside_of
 within_found r s h =
     let p = both _ _ h in
     let in_rows = both _ _ p.0 in
@@ -43,7 +43,7 @@ within_found r s h =
     record { row_low = le _ _ in_rows.0; row_high = le _ _ in_rows.1; column_low = le _ _ in_columns.0; column_high = le _ _ in_columns.1 }
 
 -- what a rectangle within another holds, the other holds
-pub held_wider : (r s : MergedCell) (q : Position) → lies_within r s ≡ true → holds r q ≡ true → holds s q ≡ true
+pub held_wider : (r s : MergedCell) (q : Position) → is_inside_of r s ≡ true → holds r q ≡ true → holds s q ≡ true
 held_wider r s q within held =
     let w = within_found r s within in
     let h = holds_found r q held in
@@ -58,7 +58,7 @@ held_wider r s q within held =
     holds_passes s q (record { row_low = omega (arith, ints); row_high = omega (arith, ints); column_low = omega (arith, ints); column_high = omega (arith, ints) })
 
 -- and what meets the first meets the other
-pub meets_wider : (p r s : MergedCell) → lies_within r s ≡ true → meets p r ≡ true → meets p s ≡ true
+pub meets_wider : (p r s : MergedCell) → is_inside_of r s ≡ true → meets p r ≡ true → meets p s ≡ true
 meets_wider p r s within met =
     let w = within_found r s within in
     let m = meets_found p r met in
@@ -72,8 +72,8 @@ meets_wider p r s within met =
     let columns_there = m.columns_there in
     meets_passes p s (record { rows_here = omega (arith, ints); rows_there = omega (arith, ints); columns_here = omega (arith, ints); columns_there = omega (arith, ints) })
 
--- a rectangle within one that lies inside the sheet does so, if it has a row and a column
-pub within_inside : (r s : MergedCell) → lies_within r s ≡ true → IsInside s → pos 1 ≤ℤ r.width → pos 1 ≤ℤ r.height → IsInside r
+-- a rectangle within one that is inside the sheet does so, if it has a row and a column
+pub within_inside : (r s : MergedCell) → is_inside_of r s ≡ true → IsInside s → pos 1 ≤ℤ r.width → pos 1 ≤ℤ r.height → IsInside r
 within_inside r s within inside wide high =
     let w = within_found r s within in
     let w_row_low = w.row_low in
@@ -147,7 +147,7 @@ module _ (a : Along) (is : IsAxis a) (by : ℤ) where
   last_shifted r = by_axis (λ a. last_line a (shifted a by r) ≡ last_line a r +ℤ by) (same_last r.row r.height by by) (same_last r.column r.width by by) a is
 
 -- a rectangle within another lies on lines of it
-pub lines_within : (a : Along) (is : IsAxis a) (r s : MergedCell) → lies_within r s ≡ true → (first_line a s ≤ℤ first_line a r) × (last_line a r ≤ℤ last_line a s)
+pub lines_within : (a : Along) (is : IsAxis a) (r s : MergedCell) → is_inside_of r s ≡ true → (first_line a s ≤ℤ first_line a r) × (last_line a r ≤ℤ last_line a s)
 lines_within a is r s within =
     let w = within_found r s within in
     by_axis (λ a. (first_line a s ≤ℤ first_line a r) × (last_line a r ≤ℤ last_line a s)) (w.row_low, w.row_high) (w.column_low, w.column_high) a is
@@ -193,7 +193,7 @@ same_place p q h =
 own_place : (q : Position) → same_position q q ≡ true
 own_place q = λ i. (signed_Decides q.row q.row).1 refl i && (signed_Decides q.column q.column).1 refl i
 
-module _ (a : Along) (is : IsAxis a) (f : FillRange) (at : IsBeside a f) (index : ℕ) (merge : MergedCell) (within : lies_within merge f.source ≡ true) where
+module _ (a : Along) (is : IsAxis a) (f : FillRange) (at : IsBeside a f) (index : ℕ) (merge : MergedCell) (within : is_inside_of merge f.source ≡ true) where
   -- how far its repetition is shifted
   abbrev far : ℤ
   far = offset a f index
@@ -255,7 +255,7 @@ turns_later period earlier later before =
     subst (λ n. n ≤ period * (later + 1)) (next_turn period (earlier + 1)) more
 
 module _ (a : Along) (is : IsAxis a) (f : FillRange) (inside : IsInside f.source) (earlier later : ℕ) (before : earlier < later)
-    (one two : MergedCell) (one_within : lies_within one f.source ≡ true) (two_within : lies_within two f.source ≡ true) where
+    (one two : MergedCell) (one_within : is_inside_of one f.source ≡ true) (two_within : is_inside_of two f.source ≡ true) where
   met_not : (b : Bool) → meets (tile a f earlier one) (tile a f later two) ≡ b → b ≡ false
   met_not false met = refl
   met_not true met =

@@ -49,7 +49,7 @@ impl Worksheet {
     }
 
     /// Puts these merges in place of the sheet's own. They may be any: it is not asked whether they
-    /// lie inside the sheet or meet. It takes no memory.
+    /// are inside the sheet or meet. It takes no memory.
     pub fn set_merged_cells(&mut self, merges: Items<MergedCell>)
         ensures { self.new ≡ record self.old { merges = merges } }
     {

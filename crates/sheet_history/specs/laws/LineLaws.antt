@@ -52,7 +52,7 @@ use Rattle.sheet_grid.specs.Book.{Book}
 use Rattle.sheet_grid.specs.laws.FittingCells.{entry_fits_at, is_shallow_entry, CellsFit}
 use Rattle.sheet_grid.specs.laws.FittingLaws.{shallow_entry}
 use Rattle.sheet_rules.specs.laws.EntryLaws.{both}
-use Rattle.sheet_rules.specs.WellFormed.{stands_inside, IsWellFormed}
+use Rattle.sheet_rules.specs.WellFormed.{has_keys_inside, IsWellFormed}
 use Rattle.sheet_rules.specs.laws.WellFormedLaws.{cells_fit_from_trees, distinct_ids_from_well_formed}
 use Rattle.sheet_lines.specs.declared.KeptLines.{KeptLines}
 use Rattle.sheet_ids.specs.Ids.{sheet_of, name_of}
@@ -63,9 +63,9 @@ use Rattle.sheet_lines.specs.laws.Regained.{book_regained, formulas_at}
 use Rattle.sheet_lines.specs.laws.Stays.{way_is}
 use Rattle.sheet_history.specs.laws.Depth.{AreShallowLines, is_shallow_rule}
 use Rattle.sheet_history.specs.LineDiffs.{is_pushed_past, stays_inside, is_there_inside, is_lost_place, is_lost_line, all_keys, stand_on_lost}
-use Rattle.sheet_history.specs.LineDiffs.{merges_inside, parts_inside, lie_inside, each_stands, formattings_stand, goes_on}
+use Rattle.sheet_history.specs.LineDiffs.{merges_inside, parts_inside, are_kept_lines_inside, each_stands, formattings_stand, goes_on}
 use Rattle.sheet_history.specs.LineDiffs.{goes_forward, goes_back, lines_forward, lines_back}
-use Rattle.book_sheets.specs.SheetDiffs.{lies_inside, cells_fit}
+use Rattle.book_sheets.specs.SheetDiffs.{is_inside_if_any, cells_fit}
 use Rattle.book_names.specs.RenameDiffs.{formulas_stand}
 use Rattle.book_names.specs.laws.Entries.{found_same}
 use Rattle.book_names.specs.laws.Stands.{IsOfCell, IsSought, cell_tree_fits, trees_on_places, trees_stand}
@@ -90,15 +90,15 @@ module _ {K X : Type 0} (R : K → K → Ordering) (total : IsTotalOrder R) (exa
       let it = lost_entry k x found in
       λ i. entry_holds R total exact (λ e. test e.0) m all k x it.0 i && it.1 i)
 
--- whether the array of an entry, if it is one, lies inside
-abbrev array_lies : Position × Cell → Bool
-array_lies entry = lies_inside (array_at entry.0 entry.1.content)
+-- whether the array of an entry, if it is one, is inside
+abbrev array_is_inside : Position × Cell → Bool
+array_is_inside entry = is_inside_if_any (array_at entry.0 entry.1.content)
 
 either_inside : (b : Bool) (merges : List MergedCell) → list_all is_inside merges ≡ true → merges_inside (cond b None (Some merges)) ≡ true
 either_inside true merges all = refl
 either_inside false merges all = all
 
--- what is kept of merges that lie inside does too
+-- what is kept of merges that are inside does too
 part_inside : (w : RouteModel) (merges : List MergedCell) → list_all is_inside merges ≡ true → merges_inside (merges_part w merges) ≡ true
 unfolding part_by_trial
 part_inside w merges all = either_inside (comes_back equality.ghosts.eq merges_carried w merges) merges all
@@ -130,15 +130,15 @@ module _ (w : RouteModel) (rules : List ConditionalFormatting) where
   kept_there count same = all_entries nat_cmp nat_cmp_total exact_unsigned (λ (entry : ℕ × ConditionalFormatting). nat_lt entry.0 count) (rules_kept w rules) (λ q formatting found.
       ap (nat_lt q) (sym same) ∙ kept_within (formatting_part w) rules q formatting found)
 
--- what a sheet has stands inside it, map by map
-record StandsInside (sheet : Sheet) : Type 0 where
+-- what a sheet has is inside it, map by map
+record RuleInside (sheet : Sheet) : Type 0 where
   cells : list_all (λ (e : Position × Cell). is_place e.0) (entries sheet.cells) ≡ true
   links : list_all (λ (e : Position × Link). is_place e.0) (entries sheet.links) ≡ true
   rows : list_all (λ (e : ℤ × LineAttr). is_line (pos 1048576) e.0) (entries sheet.rows) ≡ true
   columns : list_all (λ (e : ℤ × LineAttr). is_line (pos 16384) e.0) (entries sheet.columns) ≡ true
 
-inside_parts : (sheet : Sheet) → stands_inside sheet ≡ true → StandsInside sheet
-unfolding stands_inside
+inside_parts : (sheet : Sheet) → has_keys_inside sheet ≡ true → RuleInside sheet
+unfolding has_keys_inside
 inside_parts sheet all =
     let outer = both _ _ all in
     let middle = both _ _ outer.0 in
@@ -146,7 +146,7 @@ inside_parts sheet all =
     record { cells = inner.0; links = inner.1; rows = middle.1; columns = outer.1 }
 
 -- the lines of an axis too
-lines_inside : (a : Along) → IsAxis a → (sheet : Sheet) → StandsInside sheet → list_all (λ (e : ℤ × LineAttr). is_line a.last e.0) (entries (lines_of a sheet)) ≡ true
+lines_inside : (a : Along) → IsAxis a → (sheet : Sheet) → RuleInside sheet → list_all (λ (e : ℤ × LineAttr). is_line a.last e.0) (entries (lines_of a sheet)) ≡ true
 lines_inside a l sheet it = go l.one_of
   where
     go : (a ≡ rows) ⊎ (a ≡ columns) → list_all (λ (e : ℤ × LineAttr). is_line a.last e.0) (entries (lines_of a sheet)) ≡ true
@@ -217,7 +217,7 @@ module _ (a : Along) (l : IsAxis a) (e : EditKind) (valid : IsValid a.last e) (i
     sheet_fits : (n : ℕ) (s : Sheet) → sheet_of book n ≡ Some s → CellsFit s
     sheet_fits n s h = cells_fit_from_trees s (sheet_rules book rules n s h).trees
 
-    sheet_inside : (n : ℕ) (s : Sheet) → sheet_of book n ≡ Some s → StandsInside s
+    sheet_inside : (n : ℕ) (s : Sheet) → sheet_of book n ≡ Some s → RuleInside s
     sheet_inside n s h = inside_parts s (sheet_rules book rules n s h).inside
 
     -- a kept tree is one of a cell of a sheet
@@ -289,25 +289,25 @@ module _ (a : Along) (l : IsAxis a) (e : EditKind) (valid : IsValid a.last e) (i
       unfolding stand_on_lost
       kept_on_lost =
           let to : Position → Option Position = place_image a (image_at a.last e) in
-          let inside : StandsInside sheet = sheet_inside id sheet found in
+          let inside : RuleInside sheet = sheet_inside id sheet found in
           λ i. ((ap (λ o. all_keys (is_lost_place a e) (edited_kept (book_route a e id book) o).cells) found ∙ lost_keys position_cmp position_total exact_positions to sheet.cells is_place inside.cells) i
           && (ap (λ o. all_keys (is_lost_place a e) (edited_kept (book_route a e id book) o).links) found ∙ lost_keys position_cmp position_total exact_positions to sheet.links is_place inside.links) i)
           && ((ap (λ o. all_keys (is_lost_line a e) (edited_kept (book_route a e id book) o).lines) found
           ∙ lost_keys int_cmp int_cmp_total exact_signed (image_at a.last e) (lines_of a sheet) (is_line a.last) (lines_inside a l sheet inside)) i
           && trees_on_places book rules kept.formulas of_cell i)
 
-      -- kept arrays and merges lie inside
-      kept_lie_inside : lie_inside kept ≡ true
-      unfolding lie_inside
-      kept_lie_inside = λ i. arrays i && merges i && parts i
+      -- kept arrays and merges are inside
+      kept_inside : are_kept_lines_inside kept ≡ true
+      unfolding are_kept_lines_inside
+      kept_inside = λ i. arrays i && merges i && parts i
         where
           keeps : KeepsSheetRules sheet
           keeps = sheet_rules book rules id sheet found
 
-          arrays : list_all array_lies (entries kept.cells) ≡ true
+          arrays : list_all array_is_inside (entries kept.cells) ≡ true
           arrays =
-              ap (λ o. list_all array_lies (entries (edited_kept (book_route a e id book) o).cells)) found
-              ∙ all_entries position_cmp position_total exact_positions array_lies (lost_map (place_image a (image_at a.last e)) sheet.cells)
+              ap (λ o. list_all array_is_inside (entries (edited_kept (book_route a e id book) o).cells)) found
+              ∙ all_entries position_cmp position_total exact_positions array_is_inside (lost_map (place_image a (image_at a.last e)) sheet.cells)
               (λ p cell there. array_inside sheet keeps.arrays p cell (lost_entry position_cmp position_total exact_positions (place_image a (image_at a.last e)) sheet.cells p cell there).0)
 
           parts : parts_inside kept.formattings ≡ true
@@ -334,7 +334,7 @@ module _ (a : Along) (l : IsAxis a) (e : EditKind) (valid : IsValid a.last e) (i
       pub lines_made : (at : ℕ) → is_there_inside a e (sheet_of book id) ≡ true → lines_forward at a id e kept book ≡ Ok later
       unfolding lines_forward
       lines_made at there =
-          let goes : goes_forward a id e kept book ≡ true = λ i. valid i && there i && (kept_on_lost i && kept_lie_inside i) in
+          let goes : goes_forward a id e kept book ≡ true = λ i. valid i && there i && (kept_on_lost i && kept_inside i) in
           ap (λ b. if b then Ok later else Err (DiffRefused 0 at)) goes
 
       -- the edit is taken back
@@ -346,5 +346,5 @@ module _ (a : Along) (l : IsAxis a) (e : EditKind) (valid : IsValid a.last e) (i
           ap (is_there_inside a (opposite_of e)) (later_found id sheet found) ∙ back_inside (name_of (sheet_of book id)) sheet it e refl in
           let fit : cells_fit kept.cells ≡ true =
           ap (λ o. cells_fit (edited_kept (book_route a e id book) o).cells) found ∙ kept_fit sheet (sheet_fits id sheet found) in
-          let goes : goes_back a id e kept later ≡ true = λ i. valid i && inside i && (kept_on_lost i && kept_lie_inside i) && (fit i && kept_formulas_stand i && kept_rules_stand i) in
+          let goes : goes_back a id e kept later ≡ true = λ i. valid i && inside i && (kept_on_lost i && kept_inside i) && (fit i && kept_formulas_stand i && kept_rules_stand i) in
           ap (λ b. if b then Ok (book_back a e id kept later) else Err (DiffRefused 0 at)) goes ∙ ap Ok (book_regained a l e valid id book (distinct_ids_from_well_formed book rules))

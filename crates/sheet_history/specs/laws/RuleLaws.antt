@@ -21,7 +21,7 @@ use Rattle.sheet_rules.specs.laws.PutLaws.{arrays-put, merges-put, hidden-put}
 use Rattle.sheet_rules.specs.Names.{are_names}
 use Rattle.sheet_rules.specs.Occupied.{have_arrays, have_merges, are_hidden_blank, may_stand}
 use Rattle.sheet_rules.specs.SheetNames.{is_sheet_name}
-use Rattle.sheet_rules.specs.WellFormed.{are_distinct, ids_of, names_of, are_sheets, stands_inside, have_trees, have_rule_trees, have_attributes, are_frozen, have_rule_parts, is_row, is_column, IsWellFormed, has_font}
+use Rattle.sheet_rules.specs.WellFormed.{are_distinct, ids_of, names_of, are_sheets, has_keys_inside, have_trees, have_rule_trees, have_attributes, are_frozen, have_rule_parts, is_row, is_column, IsWellFormed, has_font}
 use Rattle.sheet_rules.specs.laws.WellFormedLaws.{well_formed_parts, well_formed_from_parts, cells_fit_from_trees, have_trees_from_cells_fit}
 use Rattle.sheet_ids.specs.Ids.{sheet_of}
 pub use Rattle.book_sheets.specs.laws.SheetRules.{KeepsSheetRules}
@@ -77,8 +77,8 @@ attributes-put sheet place entry font all =
     let fonts = all_with_entry position_cmp position_total exact_positions (λ (e : Position × Cell). has_font e.1.style) sheet.cells place entry (λ cell is. font_there entry cell font is) parts.1 in
     λ i. parts.0 i && fonts i
 
-pub inside-put : (sheet : Sheet) (place : Position) (entry : Option Cell) → is_place place ≡ true → stands_inside sheet ≡ true → stands_inside (with_cell sheet place entry) ≡ true
-unfolding stands_inside
+pub inside-put : (sheet : Sheet) (place : Position) (entry : Option Cell) → is_place place ≡ true → has_keys_inside sheet ≡ true → has_keys_inside (with_cell sheet place entry) ≡ true
+unfolding has_keys_inside
 inside-put sheet place entry inside all =
     let outer = both _ _ all in
     let middle = both _ _ outer.0 in
@@ -107,7 +107,7 @@ cell-put s place entry inside fits font stands h = record {
 
 -- so does a link
 link-put : (s : Sheet) (place : Position) (entry : Option Link) → is_place place ≡ true → KeepsSheetRules s → KeepsSheetRules (record s { links = with_entry s.links place entry })
-unfolding stands_inside have_arrays have_merges are_hidden_blank have_trees have_attributes
+unfolding has_keys_inside have_arrays have_merges are_hidden_blank have_trees have_attributes
 link-put s place entry inside h =
     let outer = both _ _ h.inside in
     let middle = both _ _ outer.0 in
@@ -127,7 +127,7 @@ link-put s place entry inside h =
 
 -- so does a field that may have its value
 field-put : (s : Sheet) (field : Field) (v : SheetField) → may_have v ≡ true → KeepsSheetRules s → KeepsSheetRules (with_field field v s)
-unfolding stands_inside have_arrays have_merges are_hidden_blank have_trees have_attributes
+unfolding has_keys_inside have_arrays have_merges are_hidden_blank have_trees have_attributes
 field-put s ColorField (value.Color v) may h =
     record { inside = h.inside; arrays = h.arrays; merges = h.merges; hidden = h.hidden; trees = h.trees; rule_trees = h.rule_trees; attributes = h.attributes; frozen = h.frozen; rule_parts = h.rule_parts }
 field-put s StateField (value.State v) may h =
@@ -166,7 +166,7 @@ module _ (w : Book) (rules : IsWellFormed w) (id : ℕ) (change : Sheet → Shee
         sheets = same_sheets next sheets (length-changed change id sheets)
             (map-changed change keeps_id (λ (s : Sheet). s.id) keeps_id id sheets)
             (map-changed change keeps_id (λ (s : Sheet). s.name) (λ s. ap (λ (t : Sheet). t.name) (bare s)) id sheets) ∙ parts.sheets;
-        inside = all-changed stands_inside id change sheets (λ s found. (kept s found).inside) parts.inside;
+        inside = all-changed has_keys_inside id change sheets (λ s found. (kept s found).inside) parts.inside;
         arrays = all-changed have_arrays id change sheets (λ s found. (kept s found).arrays) parts.arrays;
         merges = all-changed have_merges id change sheets (λ s found. (kept s found).merges) parts.merges;
         hidden = all-changed are_hidden_blank id change sheets (λ s found. (kept s found).hidden) parts.hidden;

@@ -25,13 +25,13 @@ use Rattle.sheet_rules.specs.laws.EntryLaws.{both}
 use Rattle.sheet_rules.specs.laws.OccupiedLaws.{keeps_arrays, keeps_merges}
 use Rattle.sheet_rules.specs.laws.WellFormedLaws.{cells_fit_from_trees, distinct_ids_from_well_formed}
 use Rattle.sheet_rules.specs.Occupied.{is_merge, have_arrays, have_merges}
-use Rattle.sheet_rules.specs.WellFormed.{have_attributes, is_column, is_column_style, is_row, is_row_style, is_size, is_width, stands_inside, IsWellFormed}
+use Rattle.sheet_rules.specs.WellFormed.{have_attributes, is_column, is_column_style, is_row, is_row_style, is_size, is_width, has_keys_inside, IsWellFormed}
 use Rattle.sheet_ids.specs.Ids.{sheet_of}
 use Rattle.sheet_history.specs.declared.diff.Diff.{Diff}
 use Rattle.sheet_history.specs.declared.diff.LineAxis.{LineAxis}
 use Rattle.sheet_history.specs.declared.diff.LineAxis.TheVariants.{Rows, Columns}
 use Rattle.sheet_history.specs.LineDiffs.{along_of}
-use Rattle.sheet_history.specs.Entries.{EntryKey, setting_of, sheet_id_of, sheet_entry, lies_inside, cell_stands_at, value_fits, is_value_of, entry_found, entry_accepted, entry_at, accepts}
+use Rattle.sheet_history.specs.Entries.{EntryKey, setting_of, sheet_id_of, sheet_entry, is_inside_if_any, cell_stands_at, value_fits, is_value_of, entry_found, entry_accepted, entry_at, accepts}
 use Rattle.sheet_history.specs.Entries.EntryKey.{CellKey, LinkKey, MergesKey, FieldKey, AttrKey, SettingKey}
 use Rattle.sheet_history.specs.Entries.EntryValue.{CellValue, LinkValue, AttrValue, SettingValue}
 use Rattle.sheet_history.specs.Diffs.{untested_after, untested_before, book_after, book_before, tested}
@@ -45,11 +45,11 @@ use Rattle.sheet_history.specs.laws.SettingLaws.{setting_is_of}
 use Rattle.sheet_history.specs.laws.RuleLaws.{KeepsSheetRules, sheet_rules}
 use Rattle.sheet_history.specs.laws.TestedLaws.{by_rule-kept}
 
--- the array of a cell lies inside the sheet
-pub array_inside : (s : Sheet) → have_arrays s ≡ true → (place : Position) (cell : Cell) → fin.get s.cells place ≡ Some cell → lies_inside (array_at place cell.content) ≡ true
+-- the array of a cell is inside the sheet
+pub array_inside : (s : Sheet) → have_arrays s ≡ true → (place : Position) (cell : Cell) → fin.get s.cells place ≡ Some cell → is_inside_if_any (array_at place cell.content) ≡ true
 array_inside s h place cell found = go (array_at place cell.content) refl
   where
-    go : (o : Option MergedCell) → array_at place cell.content ≡ o → lies_inside o ≡ true
+    go : (o : Option MergedCell) → array_at place cell.content ≡ o → is_inside_if_any o ≡ true
     go None is = refl
     go (Some r) is = (keeps_arrays s h).inside place r (ap (option_and_then (λ (c : Cell). array_at place c.content)) found ∙ is)
 
@@ -66,31 +66,31 @@ cell_stands s h place cell found =
     let fits : entry_fits_at place (Some cell) ≡ true = sym (ap (entry_fits_at place) found) ∙ cells_fit_from_trees s h.trees place in
     λ i. fits i && array_inside s h.arrays place cell found i
 
-cell_place : (s : Sheet) → stands_inside s ≡ true → (place : Position) (cell : Cell) → fin.get s.cells place ≡ Some cell → is_place place ≡ true
-unfolding stands_inside
+cell_place : (s : Sheet) → has_keys_inside s ≡ true → (place : Position) (cell : Cell) → fin.get s.cells place ≡ Some cell → is_place place ≡ true
+unfolding has_keys_inside
 cell_place s h place cell found =
     let inner = both _ _ (both _ _ (both _ _ h).0).0 in
     entry_holds position_cmp position_total exact_positions (λ (e : Position × Cell). is_place e.0) s.cells inner.0 place cell found
 
-link_place : (s : Sheet) → stands_inside s ≡ true → (place : Position) (link : Link) → fin.get s.links place ≡ Some link → is_place place ≡ true
-unfolding stands_inside
+link_place : (s : Sheet) → has_keys_inside s ≡ true → (place : Position) (link : Link) → fin.get s.links place ≡ Some link → is_place place ≡ true
+unfolding has_keys_inside
 link_place s h place link found =
     let inner = both _ _ (both _ _ (both _ _ h).0).0 in
     entry_holds position_cmp position_total exact_positions (λ (e : Position × Link). is_place e.0) s.links inner.1 place link found
 
--- what a row has stands inside, and is something
-row_kept : (s : Sheet) → stands_inside s ≡ true → have_attributes s ≡ true → (line : ℤ) (attr : LineAttr) → fin.get s.rows line ≡ Some attr
+-- what a row has is inside, and is something
+row_kept : (s : Sheet) → has_keys_inside s ≡ true → have_attributes s ≡ true → (line : ℤ) (attr : LineAttr) → fin.get s.rows line ≡ Some attr
     → (is_line (pos 1048576) line && not (is_plain attr)) ≡ true
-unfolding stands_inside have_attributes
+unfolding has_keys_inside have_attributes
 row_kept s inside attributes line attr found =
     let lines = entry_holds int_cmp int_cmp_total exact_signed (λ (e : ℤ × LineAttr). is_line (pos 1048576) e.0) s.rows (both _ _ (both _ _ inside).0).1 line attr found in
     let kept = entry_holds int_cmp int_cmp_total exact_signed (λ (e : ℤ × LineAttr). is_row e.1) s.rows (both _ _ (both _ _ attributes).0).0 line attr found in
     λ i. lines i && (both (not (is_plain attr)) (is_size attr.size) (both (not (is_plain attr) && is_size attr.size) (is_row_style attr.style) kept).0).0 i
 
 -- so is it of a column
-column_kept : (s : Sheet) → stands_inside s ≡ true → have_attributes s ≡ true → (line : ℤ) (attr : LineAttr) → fin.get s.columns line ≡ Some attr
+column_kept : (s : Sheet) → has_keys_inside s ≡ true → have_attributes s ≡ true → (line : ℤ) (attr : LineAttr) → fin.get s.columns line ≡ Some attr
     → (is_line (pos 16384) line && not (is_plain attr)) ≡ true
-unfolding stands_inside have_attributes
+unfolding has_keys_inside have_attributes
 column_kept s inside attributes line attr found =
     let lines = entry_holds int_cmp int_cmp_total exact_signed (λ (e : ℤ × LineAttr). is_line (pos 16384) e.0) s.columns (both _ _ inside).1 line attr found in
     let kept = entry_holds int_cmp int_cmp_total exact_signed (λ (e : ℤ × LineAttr). is_column e.1) s.columns (both _ _ (both _ _ attributes).0).1 line attr found in

@@ -33,21 +33,21 @@ use Rattle.line_edits.specs.declared.EditKind.{EditKind}
 use Rattle.line_edits.specs.Edit.{IsValid}
 use Rattle.line_edits.specs.Moves.{edit_moves, place_image}
 use Rattle.line_edits.specs.laws.OneToOne.{edit_one_to_one}
-use Rattle.line_map.specs.Attributes.{LinesLie}
+use Rattle.line_map.specs.Attributes.{LinesInside}
 use Rattle.line_map.specs.Contents.{cell_carried, cell_part, cell_restored}
 use Rattle.line_map.specs.Maps.{lost_along, places_carried, places_parts, places_restored}
-use Rattle.line_routes.specs.Merges.{merges_carried, merges_part, MergesLie}
+use Rattle.line_routes.specs.Merges.{merges_carried, merges_part, MergesInside}
 use Rattle.line_routes.specs.Trees.{following, tree_carried, tree_part}
 use Rattle.line_routes.specs.RouteModel.{RouteModel, IsRoute, at, back, place_goes}
 use Rattle.line_map.specs.laws.ContentLaws.{cell_stays}
 use Rattle.line_routes.specs.laws.MergeLaws.{merges_part_fits, merges_stay}
 use Rattle.line_routes.specs.laws.TreeLaws.{tree_restores}
 use Rattle.line_routes.specs.laws.RouteLaws.{at_is_route, back_is_route, goes_inverse}
-use Rattle.line_map.specs.Canonical.{KeptLie}
-use Rattle.line_map.specs.Rules.{rules_restored, RulesLie}
-use Rattle.line_map.specs.laws.RuleLaws.{kept_numbers, restored_lie, rules_stay}
+use Rattle.line_map.specs.Canonical.{KeptInside}
+use Rattle.line_map.specs.Rules.{rules_restored, RulesInside}
+use Rattle.line_map.specs.laws.RuleLaws.{kept_numbers, restored_are_inside, rules_stay}
 use Rattle.sheet_lines.specs.declared.kept.KeptLines.{KeptLines}
-use Rattle.sheet_lines.specs.Back.{AreCanonicalFormulas, sheet_back, sheets_back, LieInside, ArePlacedLines}
+use Rattle.sheet_lines.specs.Back.{AreCanonicalFormulas, sheet_back, sheets_back, KeptLinesInside, ArePlacedLines}
 use Rattle.sheet_lines.specs.Part.{merges_back, formattings_back}
 use Rattle.sheet_lines.specs.Workbooks.{IsSoundSheet, LinesFit}
 use Rattle.sheet_lines.specs.Followed.{edited_route, route_of, route_on, sheet_followed, sheets_followed}
@@ -131,13 +131,13 @@ module _ (w : RouteModel) (is : IsRoute w) where
       (λ p q x there held. part_kept p (place_goes w p) x (each_found position_cmp (λ _. IsCanonicalCell) m h p x held))
 
 -- what the lines of the edited axis have lies on it
-pub lost_lines_lie : (a : Along) → IsAxis a → (sheet : Sheet) → LinesLie rows sheet.rows → LinesLie columns sheet.columns → (to : ℤ → Option ℤ) →
-    LinesLie a (lost_map to (lines_of a sheet))
-lost_lines_lie a l sheet h i to = keys_lost int_cmp int_cmp_total exact_signed (IsLine a.last) to (lines_of a sheet) (by_axis l.one_of)
+pub lost_lines_are_inside : (a : Along) → IsAxis a → (sheet : Sheet) → LinesInside rows sheet.rows → LinesInside columns sheet.columns → (to : ℤ → Option ℤ) →
+    LinesInside a (lost_map to (lines_of a sheet))
+lost_lines_are_inside a l sheet h i to = keys_lost int_cmp int_cmp_total exact_signed (IsLine a.last) to (lines_of a sheet) (by_axis l.one_of)
   where
-    by_axis : (a ≡ rows) ⊎ (a ≡ columns) → LinesLie a (lines_of a sheet)
-    by_axis (inl is) = subst (λ b. LinesLie b (lines_of b sheet)) (sym is) h
-    by_axis (inr is) = subst (λ b. LinesLie b (lines_of b sheet)) (sym is) i
+    by_axis : (a ≡ rows) ⊎ (a ≡ columns) → LinesInside a (lines_of a sheet)
+    by_axis (inl is) = subst (λ b. LinesInside b (lines_of b sheet)) (sym is) h
+    by_axis (inr is) = subst (λ b. LinesInside b (lines_of b sheet)) (sym is) i
 
 -- on the edited sheet what goes nowhere is what has no image
 pub lost_places : {X : Type 0} (w : RouteModel) → w.is_edited ≡ true → (m : FinMap position_cmp X) →
@@ -145,21 +145,21 @@ pub lost_places : {X : Type 0} (w : RouteModel) → w.is_edited ≡ true → (m 
 unfolding place_goes
 lost_places w e m = ap (λ b. lost_map (λ p. if b then place_image w.along w.moves.to p else Some p) m) e
 
--- merges that are taken back lie inside
-merges_return : (w : RouteModel) → IsRoute w → (kept : Option (List MergedCell)) (merges : List MergedCell) → IfSome kept MergesLie → MergesLie merges →
-    MergesLie (merges_back w kept merges)
-merges_return w is kept merges h lie = elim w.is_edited as (λ b. MergesLie
+-- merges that are taken back are inside
+merges_return : (w : RouteModel) → IsRoute w → (kept : Option (List MergedCell)) (merges : List MergedCell) → IfSome kept MergesInside → MergesInside merges →
+    MergesInside (merges_back w kept merges)
+merges_return w is kept merges h lie = elim w.is_edited as (λ b. MergesInside
     (settled (merges_carried (back w)) (λ _ list. list) (if b then kept else None) merges)) [ true ↦ at_kept kept h | false ↦ at_kept None tt ]
   where
-    at_kept : (o : Option (List MergedCell)) → IfSome o MergesLie → MergesLie (settled (merges_carried (back w)) (λ _ list. list) o merges)
+    at_kept : (o : Option (List MergedCell)) → IfSome o MergesInside → MergesInside (settled (merges_carried (back w)) (λ _ list. list) o merges)
     at_kept None i = merges_stay (back w) (back_is_route w is) merges lie
     at_kept (Some list) i = i
 
--- conditional rules that are taken back stand inside
-formattings_return : (w : RouteModel) → IsRoute w → (kept : FinMap nat_cmp ConditionalFormatting) (rules : List ConditionalFormatting) → KeptLie kept → RulesLie rules →
-    RulesLie (formattings_back w kept rules)
-formattings_return w is kept rules h lie = elim w.is_edited as (λ b. RulesLie (if b then rules_restored w kept rules else rules))
-    [ true ↦ restored_lie w is kept h rules lie | false ↦ lie ]
+-- conditional rules that are taken back are inside
+formattings_return : (w : RouteModel) → IsRoute w → (kept : FinMap nat_cmp ConditionalFormatting) (rules : List ConditionalFormatting) → KeptInside kept → RulesInside rules →
+    RulesInside (formattings_back w kept rules)
+formattings_return w is kept rules h lie = elim w.is_edited as (λ b. RulesInside (if b then rules_restored w kept rules else rules))
+    [ true ↦ restored_are_inside w is kept h rules lie | false ↦ lie ]
 
 -- ---- workbooks
 
@@ -204,8 +204,8 @@ module _ (w : RouteModel) (is : IsRoute w) where
     inside = record {
       cells = keys_lost position_cmp position_total exact_positions IsPlace (place_image w.along w.moves.to) sheet.cells it.cells;
       links = keys_lost position_cmp position_total exact_positions IsPlace (place_image w.along w.moves.to) sheet.links it.links;
-      lines = lost_lines_lie w.along is.axis sheet it.rows it.columns w.moves.to;
-      merges = holds_of MergesLie (merges_part (route_on w sheet) sheet.merges) (merges_part_fits (route_on w sheet) (is_route_on sheet) sheet.merges it.placed.merges);
+      lines = lost_lines_are_inside w.along is.axis sheet it.rows it.columns w.moves.to;
+      merges = holds_of MergesInside (merges_part (route_on w sheet) sheet.merges) (merges_part_fits (route_on w sheet) (is_route_on sheet) sheet.merges it.placed.merges);
     };
   }
 
@@ -218,7 +218,7 @@ module _ (w : RouteModel) (is : IsRoute w) where
   }
 
   -- sheets that are taken back stay placed, with cells, trees and conditional rules that may stand where they stood
-  pub back_placed : (kept : KeptLines) → LieInside w.along kept → ArePlacedLines kept → (sheets : List Sheet) → AllByRecursion IsPlacedSheet sheets →
+  pub back_placed : (kept : KeptLines) → KeptLinesInside w.along kept → ArePlacedLines kept → (sheets : List Sheet) → AllByRecursion IsPlacedSheet sheets →
       AllByRecursion IsPlacedSheet (sheets_back w kept sheets)
   back_placed kept inside lines = all_mapped IsPlacedSheet (λ sheet. sheet_back (route_on w sheet) kept sheet)
       (λ sheet h. let v : RouteModel = route_on w sheet in record {

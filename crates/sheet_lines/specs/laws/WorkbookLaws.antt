@@ -26,7 +26,7 @@ use Rattle.sheet_lines.specs.Back.{AreCanonicalFormulas, book_restored}
 use Rattle.sheet_lines.specs.Followed.{route_on, sheet_followed, sheets_followed, book_carried}
 use Rattle.sheet_lines.specs.Kept.{kept_of, edited_kept, formulas_kept, lines_kept}
 use Rattle.sheet_ids.specs.Ids.{sheet_of}
-use Rattle.sheet_lines.specs.Workbooks.{IsSoundSheet, SheetsLie, LinesFit}
+use Rattle.sheet_lines.specs.Workbooks.{IsSoundSheet, SheetsInside, LinesFit}
 use Rattle.sheet_lines.specs.laws.Regained.{found_carried, formulas_at, sheets_regained}
 use Rattle.sheet_lines.specs.laws.Stays.{HasCanonicalNumbers, all_mapped, fits_with_formulas, followed_are, is_route_on, numbers_stay, parts_kept, sheet_kept_fits, sheet_placed}
 
@@ -51,7 +51,7 @@ module _ (w : RouteModel) (is : IsRoute w) where
   still_there None h = h
   still_there (Some sheet) h = refl
 
-  pub book_stays : (book : Book) → SheetsLie w book → SheetsLie (back w) (book_carried w book)
+  pub book_stays : (book : Book) → SheetsInside w book → SheetsInside (back w) (book_carried w book)
   book_stays book lie = record {
     sheets = all_mapped IsSoundSheet (λ sheet. sheet_followed (route_on w sheet) sheet) sound_carried book.worksheets lie.sheets;
     distinct = subst (IsDistinct ◌==◌) (sym (same_ids book.worksheets)) lie.distinct;
@@ -66,7 +66,7 @@ module _ (w : RouteModel) (is : IsRoute w) where
       (get-parts_map position_cmp position_total exact_positions (place_goes (route_on w sheet)) (λ p q x. cell_part (at (route_on w sheet) p q) x) sheet.cells p)
       (parts_kept (route_on w sheet) (is_route_on w is sheet) sheet.cells it.numbers p)
 
-  pub kept_fits : (book : Book) → SheetsLie w book → (kept : KeptLines) → Some (lines_kept w book) ≡ Some kept → LinesFit w kept
+  pub kept_fits : (book : Book) → SheetsInside w book → (kept : KeptLines) → Some (lines_kept w book) ≡ Some kept → LinesFit w kept
   kept_fits book lie kept h = let same : lines_kept w book ≡ kept = cc in subst (LinesFit w) same (fits (sheet_of book w.sheet) refl lie.there)
     where
       sound : (n : ℕ) (o : Option Sheet) → sheet_of book n ≡ o → IfSome o IsSoundSheet
@@ -83,7 +83,7 @@ module _ (w : RouteModel) (is : IsRoute w) where
           (fits_with_formulas w is (kept_of (route_on w sheet) sheet) (sheet_kept_fits w is sheet (sound w.sheet (Some sheet) found))
           (formulas_kept w book.worksheets) formulas)
 
-  pub book_restores : (book : Book) → SheetsLie w book → (kept : KeptLines) → Some (lines_kept w book) ≡ Some kept →
+  pub book_restores : (book : Book) → SheetsInside w book → (kept : KeptLines) → Some (lines_kept w book) ≡ Some kept →
       book_restored w (book_carried w book) kept ≡ book
   book_restores book lie kept h = let same : lines_kept w book ≡ kept = cc in
       ap (book_restored w (book_carried w book)) (sym same) ∙ (λ i. record book { worksheets = sheets_regained w is book lie.distinct i })

@@ -1,4 +1,4 @@
--- What a sheet has stands inside it.
+-- What a sheet has is inside it.
 use Rattle.std.proofs.Common.{◌≡◌, ℤ, pos, Bool, true, ◌&&◌, List, [], ◌∷◌, Option, Some, None, refl, ap, sym, arith, ◌∙◌}
 use Rattle.std.specs.Prelude.{All, IsTrue}
 use Rattle.std.specs.List.{list_all, AllByRecursion}

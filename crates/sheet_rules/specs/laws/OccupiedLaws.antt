@@ -24,7 +24,7 @@ array_shape place cell = array_at place cell.content
 abbrev large_shape : Position → Cell → Option MergedCell
 large_shape place cell = large_array_at place cell.content
 
--- each array lies inside, and large ones at different places do not meet
+-- each array is inside, and large ones at different places do not meet
 pub record KeepsArrays (sheet : Sheet) : Type 0 where
   pub inside : (place : Position) (array : MergedCell) → array_in sheet place ≡ Some array → is_inside array ≡ true
   pub apart : (p q : Position) (r s : MergedCell) → p ≢ q → large_array_in sheet p ≡ Some r → large_array_in sheet q ≡ Some s → meets r s ≡ false
@@ -43,7 +43,7 @@ unfolding have_arrays
 have_arrays_from sheet h =
     λ i. all_pass position_cmp position_total exact_positions array_shape is_inside sheet.cells h.inside i && apart_of position_cmp position_total exact_positions large_shape meets meets_turned sheet.cells h.apart i
 
--- each merge has two cells or more and lies inside, no two meet, and none meets the large array of a place
+-- each merge has two cells or more and is inside, no two meet, and none meets the large array of a place
 pub record KeepsMerges (sheet : Sheet) : Type 0 where
   pub merges : list_all is_merge sheet.merges ≡ true
   pub apart : are_apart sheet.merges ≡ true

@@ -26,12 +26,12 @@ use Rattle.sheet_rules.specs.Occupied.{are_apart, have_arrays, meets_any, have_m
 use Rattle.sheet_rules.specs.SheetNames.{is_sheet_name}
 use Rattle.sheet_rules.specs.laws.EntryLaws.{both, passes_at_from_all, all_from_passes_at}
 use Rattle.sheet_rules.specs.laws.ShownLaws.{not_true}
-use Rattle.sheet_rules.specs.WellFormed.{are_distinct, are_sheets, stands_inside, have_trees, have_rule_trees, is_row, is_column, has_font, have_attributes, are_frozen, have_rule_parts, IsWellFormed, ids_of}
+use Rattle.sheet_rules.specs.WellFormed.{are_distinct, are_sheets, has_keys_inside, have_trees, have_rule_trees, is_row, is_column, has_font, have_attributes, are_frozen, have_rule_parts, IsWellFormed, ids_of}
 
 -- the rules of a workbook, each for all of its sheets, and those of its defined names
 pub record KeepsRules (book : Book) : Type 0 where
   pub sheets : are_sheets book.worksheets ≡ true
-  pub inside : list_all stands_inside book.worksheets ≡ true
+  pub inside : list_all has_keys_inside book.worksheets ≡ true
   pub arrays : list_all have_arrays book.worksheets ≡ true
   pub merges : list_all have_merges book.worksheets ≡ true
   pub hidden : list_all are_hidden_blank book.worksheets ≡ true
@@ -74,7 +74,7 @@ rules_kept false i a m h t b n f none = broken none
 -- a well-formed workbook keeps each rule
 pub well_formed_parts : (book : Book) → IsWellFormed book → KeepsRules book
 well_formed_parts book h =
-    let kept = rules_kept (are_sheets book.worksheets) (list_all stands_inside book.worksheets) (list_all have_arrays book.worksheets) (list_all have_merges book.worksheets)
+    let kept = rules_kept (are_sheets book.worksheets) (list_all has_keys_inside book.worksheets) (list_all have_arrays book.worksheets) (list_all have_merges book.worksheets)
     (list_all are_hidden_blank book.worksheets) (list_all have_trees book.worksheets && list_all have_rule_trees book.worksheets && have_name_trees book.names)
     (list_all have_attributes book.worksheets) (are_names (ids_of book.worksheets) book.names) (list_all are_frozen book.worksheets && list_all have_rule_parts book.worksheets) h in
     let all_trees = both (list_all have_trees book.worksheets && list_all have_rule_trees book.worksheets) (have_name_trees book.names) kept.5 in
@@ -176,8 +176,8 @@ new_attributes name =
     λ i. list_all (λ (entry : ℤ × LineAttr). is_row entry.1) (entries-empty int_cmp i) && list_all (λ (entry : ℤ × LineAttr). is_column entry.1) (entries-empty int_cmp i)
     && list_all (λ (entry : Position × Cell). has_font entry.1.style) (entries-empty position_cmp i)
 
-new_inside : (name : List ℕ) → stands_inside (new_sheet 1 name) ≡ true
-unfolding stands_inside
+new_inside : (name : List ℕ) → has_keys_inside (new_sheet 1 name) ≡ true
+unfolding has_keys_inside
 new_inside name =
     λ i. list_all (λ (entry : Position × Cell). is_place entry.0) (entries-empty position_cmp i) && list_all (λ (entry : Position × Link). is_place entry.0) (entries-empty position_cmp i)
     && list_all (λ (entry : ℤ × LineAttr). is_line (pos 1048576) entry.0) (entries-empty int_cmp i) && list_all (λ (entry : ℤ × LineAttr). is_line (pos 16384) entry.0) (entries-empty int_cmp i)

@@ -1,7 +1,7 @@
 use Rattle.std.proofs.Common.{ap, sym, subst, ◌∙◌}
 use Rattle.format_rules.specs.Canonical.{AreCanonicalRules}
 use Rattle.line_routes.specs.RouteModel.{route_model}
-use Rattle.line_map.specs.Rules.{rules_carried, RulesLie}
+use Rattle.line_map.specs.Rules.{rules_carried, RulesInside}
 use Rattle.line_map.specs.laws.RuleLaws.{rules_numbers, rules_stay}
 use Rattle.line_map.proofs.rules.carried_rules.Goals as goal
 
@@ -12,5 +12,5 @@ new-requires g c = subst AreCanonicalRules (sym c.in_ok-output.ensures.rules)
 pub returns-clause-inside : goal.returns-clause-inside
 returns-clause-inside g c =
     let w = route_model c.args.route.now in
-    subst RulesLie (sym (c.new.ensures ∙ c.in_ok-output.ensures.rules ∙ ap (rules_carried w) c.as_slice.ensures.rules))
+    subst RulesInside (sym (c.new.ensures ∙ c.in_ok-output.ensures.rules ∙ ap (rules_carried w) c.as_slice.ensures.rules))
     (rules_stay w c.is_route.ensures c.args.rules.now c.requires)

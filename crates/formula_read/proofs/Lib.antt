@@ -1,2 +1,5 @@
+pub mod Lexing
+pub mod Places
+pub mod Tokens
 pub mod Reading
 pub mod Spelled

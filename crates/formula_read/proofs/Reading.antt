@@ -12,9 +12,9 @@ use Rattle.formula_tree.specs.ParseError.{is_parse_error}
 use Rattle.formula_grammar.specs.declared.Profile.{Profile}
 use Rattle.formula_grammar.specs.declared.Token.{Token}
 use Rattle.formula_grammar.specs.Grammar.{Derives}
-use Rattle.formula_lex.specs.Lexicon.{IsTokens}
+use Rattle.formula_read.specs.Lexicon.{IsTokens}
 use Rattle.formula_grammar.specs.laws.Reading.{tree_of}
-use Rattle.formula_lex.specs.laws.Lex.{tokens_of}
+use Rattle.formula_read.specs.laws.Lex.{tokens_of}
 use Rattle.formula_read.specs.Formula.{IsFormula, IsRead, found_tree, formula_of}
 
 -- what its tokens derive is its tree

@@ -16,7 +16,7 @@ use Rattle.formula_tree.specs.declared.numbers.NumberRule.TheVariants as rule
 use Rattle.formula_grammar.specs.declared.Token.{Token}
 use Rattle.formula_grammar.specs.declared.Token.TheVariants as t
 use Rattle.formula_grammar.specs.Numbers.{token_follows, tokens_follow}
-use Rattle.formula_lex.specs.Lexicon.{IsNumber, IsTokens, Spells, starts_digit}
+use Rattle.formula_read.specs.Lexicon.{IsNumber, IsTokens, Spells, starts_digit}
 
 -- ---- signs
 

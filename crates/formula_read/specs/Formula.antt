@@ -13,8 +13,8 @@ use Rattle.formula_grammar.specs.declared.Profile.{Profile}
 use Rattle.formula_grammar.specs.declared.Token.{Token}
 use Rattle.formula_grammar.specs.Grammar.{Derives}
 use Rattle.formula_grammar.specs.laws.Reading.{tree_of}
-use Rattle.formula_lex.specs.laws.Lex.{tokens_of}
-use Rattle.formula_lex.specs.Lexicon.{IsTokens}
+use Rattle.formula_read.specs.laws.Lex.{tokens_of}
+use Rattle.formula_read.specs.Lexicon.{IsTokens}
 
 -- what the reading of a formula in a cell depends on
 abbrev pub profile_of : CellReferenceRC → Locale → Language → Profile

@@ -1,1 +1,4 @@
+pub mod Characters
+pub mod Lexicon
 pub mod Formula
+pub mod laws

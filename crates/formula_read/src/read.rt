@@ -11,10 +11,10 @@ ghost use Rattle.formula_grammar.specs.declared.Profile.{Profile as AnyProfile};
 ghost use Rattle.formula_tree.specs.Context.{context_place};
 ghost use Rattle.formula_read.specs.Formula.{IsFormula, IsRead, found_tree, formula_of, profile_of, without_equals};
 
+use crate::{lex_text, text_spells_one_list};
 use base_tables::{Language, Locale};
 use base_values::{EditError, Text};
 use formula_grammar::{Profile, read_tokens, tokens_derive_one_tree};
-use formula_lex::{lex_text, text_spells_one_list};
 use formula_tree::{CellReferenceRC, Node};
 use std::alloc::Global;
 

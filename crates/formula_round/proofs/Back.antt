@@ -7,7 +7,7 @@ use Rattle.cell_content.specs.declared.Content.{Content}
 use Rattle.cell_content.specs.declared.Content.TheVariants.{Empty, Number, Boolean, Error, Text, Formula, Dynamic, Array}
 use Rattle.cell_content.specs.CanonicalContent.{IsCanonicalContent}
 use Rattle.formula_grammar.specs.declared.Profile.{Profile}
-use Rattle.formula_lex.specs.Lexicon.{IsTokens}
+use Rattle.formula_read.specs.Lexicon.{IsTokens}
 use Rattle.formula_read.specs.Formula.{IsFormula, IsRead, formula_of}
 use Rattle.cell_input.specs.Inputs.{input_of, input_text, IsReadAgain}
 use Rattle.formula_round.specs.Back.{IsCanonicalNormal, is_normal_content, text_at}

@@ -14,7 +14,7 @@ use Rattle.base_tables.specs.Locale.{decimal_sign}
 use Rattle.base_tables.specs.Word.{is_digit, starts_word, goes_on_word}
 use Rattle.base_decimal.specs.Digits.{stops}
 use Rattle.base_decimal.proofs.Spans.{not_true}
-use Rattle.formula_lex.specs.Characters.{Text, goes_on_place, goes_on_name, goes_on_number}
+use Rattle.formula_read.specs.Characters.{Text, goes_on_place, goes_on_name, goes_on_number}
 
 -- ---- ASCII
 

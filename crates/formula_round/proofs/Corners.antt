@@ -24,9 +24,9 @@ use Rattle.formula_print.specs.References.{sheet_text, column_text, row_text, ce
 use Rattle.formula_grammar.specs.declared.CellMark.{CellMark}
 use Rattle.formula_grammar.specs.declared.Token.TheVariants as t
 use Rattle.formula_grammar.specs.Normal.{is_named}
-use Rattle.formula_lex.specs.Characters.{Text, is_blank}
-use Rattle.formula_lex.specs.Lexicon.{dollar, IsColumn, IsRow, IsCell, IsSpan, IsRange, cells, columns, rows, on_row, on_column}
-use Rattle.formula_lex.specs.Lexicon.{IsSheetName, plain, quoted, OnSheet, NoCell, NoRange}
+use Rattle.formula_read.specs.Characters.{Text, is_blank}
+use Rattle.formula_read.specs.Lexicon.{dollar, IsColumn, IsRow, IsCell, IsSpan, IsRange, cells, columns, rows, on_row, on_column}
+use Rattle.formula_read.specs.Lexicon.{IsSheetName, plain, quoted, OnSheet, NoCell, NoRange}
 use Rattle.formula_round.specs.Tokens.{mark_of}
 use Rattle.formula_round.proofs.Characters.{is_ascii, in_cell, ends_place, ends_cell}
 use Rattle.formula_round.proofs.Fronts.{weaker, all_joined, column_in_cell, row_in_cell, cell_in_cell, ranged, first_in_cell, on_none}

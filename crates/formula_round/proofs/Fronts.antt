@@ -9,8 +9,8 @@ use Rattle.base_tables.specs.Column.{is_letter, is_column_name, column_of_name}
 use Rattle.base_tables.specs.Word.{is_digit, is_count, is_row_number}
 use Rattle.base_decimal.specs.Digits.{stops}
 use Rattle.formula_grammar.specs.declared.CellMark.{CellMark}
-use Rattle.formula_lex.specs.Characters.{Text, goes_on_place}
-use Rattle.formula_lex.specs.Lexicon.{dollar, row_of_name, IsLine, IsColumn, IsRow, IsCell, IsRange, cells, columns, rows, OnSheet, NoCell, NoRange}
+use Rattle.formula_read.specs.Characters.{Text, goes_on_place}
+use Rattle.formula_read.specs.Lexicon.{dollar, row_of_name, IsLine, IsColumn, IsRow, IsCell, IsRange, cells, columns, rows, OnSheet, NoCell, NoRange}
 use Rattle.formula_round.proofs.Characters.{in_cell}
 
 -- ---- tests of all characters

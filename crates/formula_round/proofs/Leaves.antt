@@ -37,8 +37,8 @@ use Rattle.formula_print.specs.Pieces.{text_constant, compare_sign, infix_sign}
 use Rattle.formula_grammar.specs.declared.Token.TheVariants as t
 use Rattle.formula_grammar.specs.Operators.{compare_token, infix_token}
 use Rattle.formula_grammar.specs.Words.{separator_token, row_token}
-use Rattle.formula_lex.specs.Characters.{Text, goes_on_name, doubled}
-use Rattle.formula_lex.specs.Lexicon.{row_of_name, NoCell, NoRange, NoError}
+use Rattle.formula_read.specs.Characters.{Text, goes_on_name, doubled}
+use Rattle.formula_read.specs.Lexicon.{row_of_name, NoCell, NoRange, NoError}
 use Rattle.formula_round.proofs.Characters.{is_ascii, each_ascii, in_word, in_cell, ascii_word, ascii_starts, follows, follows_low, follow_parts}
 use Rattle.formula_round.proofs.Characters.{is_followed, ends_name, ends_text, ends_cell}
 use Rattle.formula_round.proofs.Fronts.{weaker, no_cell_here}

@@ -12,8 +12,8 @@ use Rattle.base_values.specs.Places.{is_line}
 use Rattle.base_tables.specs.Column.{column_letters, column_name, column_of_name}
 use Rattle.base_tables.specs.laws.ColumnLaws.{printed_column}
 use Rattle.base_tables.specs.Word.{is_digit, number_after, digits_number, starts_positive, is_count}
-use Rattle.formula_lex.specs.Characters.{Text}
-use Rattle.formula_lex.specs.Lexicon.{row_of_name}
+use Rattle.formula_read.specs.Characters.{Text}
+use Rattle.formula_read.specs.Lexicon.{row_of_name}
 
 -- ---- rows
 

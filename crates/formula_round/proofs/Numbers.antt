@@ -28,8 +28,8 @@ use Rattle.base_decimal.specs.Value.{trim}
 use Rattle.base_decimal.proofs.Prints.{printed_reads}
 use Rattle.base_decimal.proofs.Trims.{ends, trim_ended}
 use Rattle.formula_grammar.specs.declared.Token.TheVariants as t
-use Rattle.formula_lex.specs.Characters.{Text}
-use Rattle.formula_lex.specs.Lexicon.{IsNumber, starts_digit, NoCell}
+use Rattle.formula_read.specs.Characters.{Text}
+use Rattle.formula_read.specs.Lexicon.{IsNumber, starts_digit, NoCell}
 use Rattle.formula_round.proofs.Characters.{is_ascii, each_ascii, ends_number, ends_cell}
 use Rattle.formula_round.proofs.Fronts.{weaker, all_joined, no_cell_here}
 use Rattle.formula_round.proofs.Words.{no_colon_no_range}

@@ -8,8 +8,8 @@ use Rattle.base_tables.specs.declared.Language.{Language}
 use Rattle.base_tables.specs.declared.Locale.{Locale}
 use Rattle.base_decimal.specs.Digits.{stops}
 use Rattle.formula_grammar.specs.declared.Token.{Token}
-use Rattle.formula_lex.specs.Characters.{Text}
-use Rattle.formula_lex.specs.Lexicon.{Spells, Ends, IsTokens}
+use Rattle.formula_read.specs.Characters.{Text}
+use Rattle.formula_read.specs.Lexicon.{Spells, Ends, IsTokens}
 use Rattle.formula_round.proofs.Characters.{is_ascii, each_ascii, is_followed}
 
 -- before what may follow it, a text of bytes is these tokens

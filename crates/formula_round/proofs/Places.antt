@@ -12,8 +12,8 @@ use Rattle.base_tables.specs.Word.{is_digit, is_word, starts_word, goes_on_word,
 use Rattle.base_decimal.specs.Digits.{stops}
 use Rattle.base_decimal.proofs.Spans.{not_false}
 use Rattle.formula_grammar.specs.declared.CellMark.{CellMark}
-use Rattle.formula_lex.specs.Characters.{Text, is_blank, goes_on_place, doubled}
-use Rattle.formula_lex.specs.Lexicon.{IsColumn, IsRow, IsCell, IsRange, IsSheetName, plain, quoted, OnSheet, NoCell, NoRange}
+use Rattle.formula_read.specs.Characters.{Text, is_blank, goes_on_place, doubled}
+use Rattle.formula_read.specs.Lexicon.{IsColumn, IsRow, IsCell, IsRange, IsSheetName, plain, quoted, OnSheet, NoCell, NoRange}
 use Rattle.formula_round.proofs.Characters.{in_cell, ascii_starts}
 use Rattle.formula_round.proofs.Fronts.{Sides, two_cells, two_columns, two_rows, weaker, all_parted, column_all, row_all, column_some, row_some, cell_in_cell}
 use Rattle.formula_round.proofs.Fronts.{on_none, no_cell_without, no_cell_here, no_range_in}

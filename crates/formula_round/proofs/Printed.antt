@@ -52,8 +52,8 @@ use Rattle.formula_grammar.specs.declared.Token.TheVariants as t
 use Rattle.formula_grammar.specs.Normal.{Sort, empty, sum, lambda, other, Seen, is_empty, is_callee, operand as is_operand, arguments, is_normal}
 use Rattle.formula_grammar.specs.Normal.{is_named, is_text_word, is_plain_name, is_called_name, is_no_capital, is_table, is_parameter}
 use Rattle.formula_grammar.specs.Words.{separator_token}
-use Rattle.formula_lex.specs.Characters.{Text}
-use Rattle.formula_lex.specs.Lexicon.{NoCell, IsTokens}
+use Rattle.formula_read.specs.Characters.{Text}
+use Rattle.formula_read.specs.Lexicon.{NoCell, IsTokens}
 use Rattle.formula_round.specs.Tokens.{Tokened, tokened, tokens_of}
 use Rattle.formula_round.specs.Tokens as tokens
 use Rattle.formula_round.proofs.Characters.{in_word, follows, is_followed, ends_cell}

@@ -26,8 +26,8 @@ use Rattle.formula_grammar.specs.declared.Profile.{Profile}
 use Rattle.formula_grammar.specs.declared.Token.TheVariants as t
 use Rattle.formula_grammar.specs.Normal.{Sort, is_empty, is_callee}
 use Rattle.formula_grammar.specs.Operators.{infix_token}
-use Rattle.formula_lex.specs.Characters.{Text}
-use Rattle.formula_lex.specs.Lexicon.{NoCell}
+use Rattle.formula_read.specs.Characters.{Text}
+use Rattle.formula_read.specs.Lexicon.{NoCell}
 use Rattle.formula_round.specs.Tokens.{Tokened}
 use Rattle.formula_round.specs.Tokens as tokens
 use Rattle.formula_round.proofs.Characters.{in_word, follows, sign_follows}

@@ -29,7 +29,7 @@ use Rattle.formula_grammar.specs.declared.Token.TheVariants as t
 use Rattle.formula_grammar.specs.Grammar.{parameters_tokens}
 use Rattle.formula_grammar.specs.Normal.{is_constant, is_parameter}
 use Rattle.formula_grammar.specs.Words.{separator_token, row_token, parameter_tokens}
-use Rattle.formula_lex.specs.Characters.{Text}
+use Rattle.formula_read.specs.Characters.{Text}
 use Rattle.formula_round.specs.Tokens as tokens
 use Rattle.formula_round.proofs.Characters.{is_ascii, in_word, follows, may_follow, is_followed, sign_follows}
 use Rattle.formula_round.proofs.Leaves.{boolean_part, error_part, text_part, name_part, minus_part, separator_part, row_part}

@@ -9,8 +9,8 @@ use Rattle.base_tables.specs.Word.{is_digit, is_row_number, is_word, begins_word
 use Rattle.base_decimal.proofs.Spans.{not_true}
 use Rattle.base_decimal.specs.Digits.{stops}
 use Rattle.formula_grammar.specs.declared.CellMark.{CellMark}
-use Rattle.formula_lex.specs.Characters.{Text, goes_on_place}
-use Rattle.formula_lex.specs.Lexicon.{dollar, row_of_name, IsLine, IsCell, NoCell, NoRange}
+use Rattle.formula_read.specs.Characters.{Text, goes_on_place}
+use Rattle.formula_read.specs.Lexicon.{dollar, row_of_name, IsLine, IsCell, NoCell, NoRange}
 use Rattle.formula_round.proofs.Characters.{in_cell, in_word, ascii_word, ascii_starts}
 use Rattle.formula_round.proofs.Fronts.{Sides, two_cells, two_columns, two_rows, if_some, weaker, all_parted, row_digits_all, column_letters_all, no_cell_in}
 use Rattle.formula_round.proofs.Fronts.{no_range_in}

@@ -6,7 +6,7 @@ ghost use Rattle.cell_content.specs.CanonicalContent.{IsCanonicalContent};
 ghost use Rattle.formula_grammar.specs.declared.Profile.{Profile as AnyProfile};
 ghost use Rattle.formula_grammar.specs.Grammar.{Derives};
 ghost use Rattle.formula_grammar.specs.Normal.{is_normal};
-ghost use Rattle.formula_lex.specs.Lexicon.{IsTokens};
+ghost use Rattle.formula_read.specs.Lexicon.{IsTokens};
 ghost use Rattle.formula_read.specs.Formula.{IsFormula, formula_of};
 ghost use Rattle.cell_input.specs.Inputs.{input_of, input_text};
 ghost use Rattle.formula_round.specs.Back.{IsCanonicalNormal, is_normal_content, text_at};

@@ -1,7 +1,7 @@
 use Rattle.std.proofs.Common.{rules, Some, option_map, ap, sym, ◌∙◌}
 use Rattle.std.specs.Str.{chars}
 use Rattle.formula_tree.specs.declared.numbers.NumberRule.TheVariants.{Canonical, NotNegative}
-use Rattle.formula_lex.specs.Lexicon.{IsTokens}
+use Rattle.formula_read.specs.Lexicon.{IsTokens}
 use Rattle.formula_read.proofs.Reading.{nothing_found, only_formula, same_answer, same_found}
 use Rattle.formula_read.proofs.Spelled.{spelled_follow}
 use Rattle.formula_read.proofs.read.tree_of.Goals as goal

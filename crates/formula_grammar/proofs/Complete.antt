@@ -8,10 +8,10 @@ use Rattle.formula_tree.specs.declared.node.Node.TheVariants as n
 use Rattle.formula_tree.specs.Depth.{depth_of, greatest}
 use Rattle.formula_tree.specs.laws.DepthEquations.{depth_lambda, depth_lambda_call}
 use Rattle.formula_tree.specs.laws.DepthLaws.{depth_positive}
-use Rattle.formula_levels.specs.declared.infix.Infix.{Infix}
-use Rattle.formula_levels.specs.declared.postfix.Postfix.{Postfix}
-use Rattle.formula_levels.specs.declared.prefix.Prefix.{Prefix}
-use Rattle.formula_levels.specs.Levels.{infix_node, prefix_node, postfix_node}
+use Rattle.formula_tree.specs.declared.infix.Infix.{Infix}
+use Rattle.formula_tree.specs.declared.postfix.Postfix.{Postfix}
+use Rattle.formula_tree.specs.declared.prefix.Prefix.{Prefix}
+use Rattle.formula_tree.specs.Levels.{infix_node, prefix_node, postfix_node}
 use Rattle.formula_grammar.specs.declared.operator.Operator.{Operator}
 use Rattle.formula_grammar.specs.declared.operator.Operator.TheVariants as operator
 use Rattle.formula_grammar.specs.declared.profile.Profile.{Profile}

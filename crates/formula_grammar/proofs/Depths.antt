@@ -10,10 +10,10 @@ use Rattle.formula_tree.specs.declared.node.Node.{Node}
 use Rattle.base_values.specs.declared.Position.{Position}
 use Rattle.formula_tree.specs.Depth.{depth_of, greatest}
 use Rattle.formula_tree.specs.laws.DepthEquations.{depths as tree_depths, depth_lambda_call}
-use Rattle.formula_levels.specs.declared.infix.Infix.{Infix}
-use Rattle.formula_levels.specs.declared.postfix.Postfix.{Postfix}
-use Rattle.formula_levels.specs.declared.prefix.Prefix.{Prefix}
-use Rattle.formula_levels.specs.Levels.{infix_node, prefix_node, postfix_node}
+use Rattle.formula_tree.specs.declared.infix.Infix.{Infix}
+use Rattle.formula_tree.specs.declared.postfix.Postfix.{Postfix}
+use Rattle.formula_tree.specs.declared.prefix.Prefix.{Prefix}
+use Rattle.formula_tree.specs.Levels.{infix_node, prefix_node, postfix_node}
 use Rattle.formula_grammar.specs.Words.{call_node, called, word_node, worded, range_node}
 use Rattle.formula_grammar.specs.laws.Reading.{shallow_tree}
 use Rattle.formula_tree.specs.laws.DepthLaws.{depth_positive}

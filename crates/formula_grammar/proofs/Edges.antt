@@ -10,7 +10,7 @@ use Rattle.formula_grammar.specs.declared.token.Token.{Token}
 use Rattle.formula_grammar.specs.Operators.{infix_token, postfix_token, prefix_under, prefix_token}
 use Rattle.formula_grammar.specs.Words.{separator_token, row_token, worded}
 use Rattle.formula_grammar.specs.laws.Reading.{Parser, operator_of, operator_under, operator_at, opening, closing, is_separator, separator, is_empty_here, after_item, named, parameter, sign_at, signed}
-use Rattle.formula_levels.specs.declared.prefix.Prefix.{Prefix}
+use Rattle.formula_tree.specs.declared.prefix.Prefix.{Prefix}
 use Rattle.formula_grammar.specs.Grammar.{Expression, Lambda, expression_tokens, lambda_tokens, arguments_tokens}
 use Rattle.formula_grammar.specs.declared.after_item.AfterItem.TheVariants as after
 use Rattle.formula_grammar.specs.declared.operator.Operator.TheVariants as operator

@@ -4,15 +4,15 @@ use Rattle.base_tables.specs.declared.Locale.{Locale}
 use Rattle.formula_tree.specs.declared.array_item.ArrayItem.{ArrayItem}
 use Rattle.formula_tree.specs.declared.node.Node.{Node}
 use Rattle.formula_tree.specs.declared.parameter.Parameter.{Parameter}
-use Rattle.formula_levels.specs.declared.prefix.Prefix.{Prefix}
-use Rattle.formula_levels.specs.Levels.{prefix_node}
+use Rattle.formula_tree.specs.declared.prefix.Prefix.{Prefix}
+use Rattle.formula_tree.specs.Levels.{prefix_node}
 use Rattle.formula_grammar.specs.declared.profile.Profile.{Profile}
 use Rattle.formula_grammar.specs.declared.token.Token.{Token}
 use Rattle.formula_grammar.specs.laws.Reading.{Parser, and_then, pure, shallow_tree, item, after_item, rows_next, rows_from, parameter, parameters_step, parameters_from, separator, argument, arguments_from, operator_at, turn, chain_step, chain_from, signed, expression, whole, Outcome, with_rest, make, sign_at, signed_step}
 use Rattle.formula_grammar.specs.laws.Signs.{wrapped, counted, signs, making}
 use Rattle.std.proofs.lemmas.Bool.Decides.{nat_tests}
 use Rattle.formula_grammar.specs.Operators.{prefix_under, prefix_token}
-use Rattle.formula_levels.specs.declared.prefix.Prefix.TheVariants as prefix
+use Rattle.formula_tree.specs.declared.prefix.Prefix.TheVariants as prefix
 
 next : {X : Type 0} (f : ℕ → X) (n at : ℕ) → at < n → f (n - at) ≡ f (suc (n - (at + 1)))
 next f n at h = let more : n - at ≡ suc (n - (at + 1)) = omega arith in ap f more

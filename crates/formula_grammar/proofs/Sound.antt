@@ -9,9 +9,9 @@ use Rattle.formula_tree.specs.declared.node.Node.{Node}
 use Rattle.formula_tree.specs.declared.node.Node.TheVariants as n
 use Rattle.formula_tree.specs.Depth.{depth_of}
 use Rattle.formula_tree.specs.laws.DepthEquations.{depth_number, depth_text, depth_reference, depth_error, depth_array, depth_empty_argument}
-use Rattle.formula_levels.specs.declared.prefix.Prefix.{Prefix}
-use Rattle.formula_levels.specs.declared.prefix.Prefix.TheVariants as prefix
-use Rattle.formula_levels.specs.Levels.{infix_node, prefix_node, postfix_node}
+use Rattle.formula_tree.specs.declared.prefix.Prefix.{Prefix}
+use Rattle.formula_tree.specs.declared.prefix.Prefix.TheVariants as prefix
+use Rattle.formula_tree.specs.Levels.{infix_node, prefix_node, postfix_node}
 use Rattle.formula_grammar.specs.declared.operator.Operator.{Operator}
 use Rattle.formula_grammar.specs.declared.operator.Operator.TheVariants as operator
 use Rattle.formula_grammar.specs.declared.profile.Profile.{Profile}

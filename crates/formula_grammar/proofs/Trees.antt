@@ -28,10 +28,10 @@ use Rattle.formula_tree.specs.laws.NumbersEquations.{numbers_array, numberings}
 use Rattle.formula_tree.specs.laws.ParseErrorEquations.{parse_errors}
 use Rattle.formula_tree.specs.laws.PlacedEquations.{placed_range, placings}
 use Rattle.formula_tree.specs.laws.PlacedLaws.{ordered_placed}
-use Rattle.formula_levels.specs.declared.infix.Infix.{Infix}
-use Rattle.formula_levels.specs.declared.postfix.Postfix.{Postfix}
-use Rattle.formula_levels.specs.declared.prefix.Prefix.{Prefix}
-use Rattle.formula_levels.specs.Levels.{infix_node, prefix_node, postfix_node}
+use Rattle.formula_tree.specs.declared.infix.Infix.{Infix}
+use Rattle.formula_tree.specs.declared.postfix.Postfix.{Postfix}
+use Rattle.formula_tree.specs.declared.prefix.Prefix.{Prefix}
+use Rattle.formula_tree.specs.Levels.{infix_node, prefix_node, postfix_node}
 use Rattle.formula_grammar.specs.declared.profile.Profile.{Profile}
 use Rattle.formula_grammar.specs.declared.token.CellMark.{CellMark}
 use Rattle.formula_grammar.specs.declared.token.Token.{Token}

@@ -6,13 +6,13 @@ use Rattle.formula_tree.specs.declared.operator.ProductKind.{ProductKind}
 use Rattle.formula_tree.specs.declared.operator.ProductKind.TheVariants as product_kind
 use Rattle.formula_tree.specs.declared.operator.SumKind.{SumKind}
 use Rattle.formula_tree.specs.declared.operator.SumKind.TheVariants as sum_kind
-use Rattle.formula_levels.specs.declared.infix.Infix.{Infix}
-use Rattle.formula_levels.specs.declared.infix.Infix.TheVariants as between
-use Rattle.formula_levels.specs.declared.postfix.Postfix.{Postfix}
-use Rattle.formula_levels.specs.declared.postfix.Postfix.TheVariants as postfix
-use Rattle.formula_levels.specs.declared.prefix.Prefix.{Prefix}
-use Rattle.formula_levels.specs.declared.prefix.Prefix.TheVariants as prefix
-use Rattle.formula_levels.specs.Levels.{tighter, infix_level, prefix_level, postfix_level}
+use Rattle.formula_tree.specs.declared.infix.Infix.{Infix}
+use Rattle.formula_tree.specs.declared.infix.Infix.TheVariants as between
+use Rattle.formula_tree.specs.declared.postfix.Postfix.{Postfix}
+use Rattle.formula_tree.specs.declared.postfix.Postfix.TheVariants as postfix
+use Rattle.formula_tree.specs.declared.prefix.Prefix.{Prefix}
+use Rattle.formula_tree.specs.declared.prefix.Prefix.TheVariants as prefix
+use Rattle.formula_tree.specs.Levels.{tighter, infix_level, prefix_level, postfix_level}
 use Rattle.formula_grammar.specs.declared.token.Token.{Token}
 use Rattle.formula_grammar.specs.declared.token.Token.TheVariants as t
 

@@ -9,7 +9,7 @@ use crate::operator::{Operator, operator_of, sign_at};
 use crate::separators::{has_point, is_separator};
 use crate::token::Token;
 use base_tables::Locale;
-use formula_levels::Prefix;
+use formula_tree::Prefix;
 
 /// The tokens that are still to be read.
 #[derive(Drop)]

@@ -1,14 +1,13 @@
 ghost use Rattle.std.specs.Prelude.{◌≡◌, ◌++◌, ◌∷◌, [], IfOk, ◌≤◌, map};
 ghost use Rattle.formula_tree.specs.Depth.{depth_of, greatest};
-ghost use Rattle.formula_levels.specs.Levels as table;
+ghost use Rattle.formula_tree.specs.Levels as table;
 ghost use Rattle.formula_grammar.specs.laws.Outcome.{Makes};
 
 use crate::fault::Fault;
 use base_shared::Shared;
 use base_tables::Function;
 use base_values::{Items, Text};
-use formula_levels::{Infix, Postfix, Prefix};
-use formula_tree::{MAX_DEPTH, Node, Parameter, UnaryKind};
+use formula_tree::{Infix, MAX_DEPTH, Node, Parameter, Postfix, Prefix, UnaryKind};
 use std::alloc::{AllocError, Global};
 use std::marker::Model;
 

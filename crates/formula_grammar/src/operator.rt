@@ -6,8 +6,7 @@ ghost use Rattle.formula_grammar.specs.laws.Reading as spec;
 ghost use Rattle.formula_grammar.specs.laws.Signs.{making};
 
 use crate::token::Token;
-use formula_levels::{Infix, Postfix, Prefix, tighter};
-use formula_tree::{CompareKind, ProductKind, SumKind};
+use formula_tree::{CompareKind, Infix, Postfix, Prefix, ProductKind, SumKind, tighter};
 
 /// An operator behind a first operand.
 #[derive(Clone, Copy)]

@@ -18,8 +18,7 @@ use crate::profile::Profile;
 use crate::token::Token;
 use crate::words::{called, is_lambda, range, reference, worded};
 use base_values::Text;
-use formula_levels::{LEVELS, Prefix};
-use formula_tree::{MAX_DEPTH, Node};
+use formula_tree::{LEVELS, MAX_DEPTH, Node, Prefix};
 use std::alloc::Global;
 
 #[derive(Clone, Copy)]

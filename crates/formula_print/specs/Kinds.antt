@@ -4,11 +4,11 @@ use Rattle.formula_print.specs.declared.kind.Kind.{Kind}
 use Rattle.formula_print.specs.declared.kind.Kind.TheVariants as k
 use Rattle.formula_print.specs.declared.kind.Need.{Need}
 use Rattle.formula_print.specs.declared.kind.Need.TheVariants as need
-use Rattle.formula_levels.specs.declared.infix.Infix.{Infix}
-use Rattle.formula_levels.specs.declared.infix.Infix.TheVariants as op
-use Rattle.formula_levels.specs.declared.postfix.Postfix.TheVariants as postfix
-use Rattle.formula_levels.specs.declared.prefix.Prefix.TheVariants as prefix
-use Rattle.formula_levels.specs.Levels.{infix_level, prefix_level, postfix_level, operand_level}
+use Rattle.formula_tree.specs.declared.infix.Infix.{Infix}
+use Rattle.formula_tree.specs.declared.infix.Infix.TheVariants as op
+use Rattle.formula_tree.specs.declared.postfix.Postfix.TheVariants as postfix
+use Rattle.formula_tree.specs.declared.prefix.Prefix.TheVariants as prefix
+use Rattle.formula_tree.specs.Levels.{infix_level, prefix_level, postfix_level, operand_level}
 use Rattle.formula_tree.specs.declared.SumKind.TheVariants.{Add}
 
 -- by the table of operators; above them all that is no operator

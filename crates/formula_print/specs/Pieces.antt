@@ -20,8 +20,8 @@ use Rattle.formula_tree.specs.declared.SumKind.TheVariants as s
 use Rattle.formula_tree.specs.declared.ProductKind.{ProductKind}
 use Rattle.formula_tree.specs.declared.ProductKind.TheVariants as p
 use Rattle.formula_tree.specs.declared.Parameter.{Parameter}
-use Rattle.formula_levels.specs.declared.infix.Infix.{Infix}
-use Rattle.formula_levels.specs.declared.infix.Infix.TheVariants as op
+use Rattle.formula_tree.specs.declared.infix.Infix.{Infix}
+use Rattle.formula_tree.specs.declared.infix.Infix.TheVariants as op
 use Rattle.formula_print.specs.declared.style.Style.{Style}
 use Rattle.formula_print.specs.declared.style.Dialect.{Dialect}
 use Rattle.formula_print.specs.declared.style.Dialect.TheVariants.{Plain, Excel}

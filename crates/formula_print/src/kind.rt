@@ -1,8 +1,7 @@
 ghost use Rattle.std.specs.Prelude.{◌≡◌};
 ghost use Rattle.formula_print.specs.Kinds.{level_of, is_simple, is_percent, is_sign, is_number_or_name, is_reference, is_lambda, fits, left_need, right_need};
 
-use formula_levels::{Infix, Postfix, Prefix};
-use formula_tree::SumKind;
+use formula_tree::{Infix, Postfix, Prefix, SumKind};
 
 /// The level of what is no operator: all operators are looser.
 const OPERAND: u8 = 11;

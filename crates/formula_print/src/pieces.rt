@@ -6,8 +6,7 @@ use crate::number::push_number;
 use crate::style::{Dialect, Style};
 use base_tables::{Function, Locale, push_doubled};
 use base_values::{Items, Text};
-use formula_levels::Infix;
-use formula_tree::{ArrayItem, CompareKind, Parameter, ProductKind, SumKind};
+use formula_tree::{ArrayItem, CompareKind, Infix, Parameter, ProductKind, SumKind};
 use std::alloc::AllocError;
 
 /// A text constant.

@@ -15,8 +15,7 @@ use crate::pieces::{
 use crate::reference::{is_cell_first, is_range_cell_first, push_range, push_reference};
 use crate::style::{Dialect, Style};
 use base_tables::{Function, Locale};
-use formula_levels::{Infix, Postfix, Prefix};
-use formula_tree::{Node, Parameter, UnaryKind};
+use formula_tree::{Infix, Node, Parameter, Postfix, Prefix, UnaryKind};
 use std::alloc::AllocError;
 
 fn unary_kind(kind: UnaryKind) -> Kind

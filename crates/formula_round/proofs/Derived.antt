@@ -22,11 +22,11 @@ use Rattle.formula_tree.specs.Corners.{is_inside}
 use Rattle.formula_tree.specs.Depth.{depth_of, greatest}
 use Rattle.formula_tree.specs.Placed.{is_placed_range}
 use Rattle.formula_tree.specs.laws.Induction.{induct}
-use Rattle.formula_levels.specs.declared.Infix.{Infix}
-use Rattle.formula_levels.specs.declared.Infix.TheVariants as op
-use Rattle.formula_levels.specs.declared.Postfix.TheVariants as postfix
-use Rattle.formula_levels.specs.declared.Prefix.TheVariants as prefix
-use Rattle.formula_levels.specs.Levels.{prefix_level, postfix_level, infix_node}
+use Rattle.formula_tree.specs.declared.Infix.{Infix}
+use Rattle.formula_tree.specs.declared.Infix.TheVariants as op
+use Rattle.formula_tree.specs.declared.Postfix.TheVariants as postfix
+use Rattle.formula_tree.specs.declared.Prefix.TheVariants as prefix
+use Rattle.formula_tree.specs.Levels.{prefix_level, postfix_level, infix_node}
 use Rattle.formula_print.specs.declared.Kind.{Kind}
 use Rattle.formula_print.specs.declared.Kind.TheVariants as k
 use Rattle.formula_print.specs.declared.Need.{Need}

@@ -3,10 +3,10 @@ use Rattle.std.specs.Prelude.{◌≡◌, ℕ, zero, suc, ◌+◌, ◌<◌, ◌�
 use Rattle.std.proofs.Common.{refl, subst, arith}
 use Rattle.std.proofs.lemmas.Bool.Decides.{nat_tests}
 use Rattle.formula_tree.specs.declared.Node.{Node}
-use Rattle.formula_levels.specs.declared.Infix.{Infix}
-use Rattle.formula_levels.specs.declared.Postfix.{Postfix}
-use Rattle.formula_levels.specs.declared.Prefix.{Prefix}
-use Rattle.formula_levels.specs.Levels.{infix_node, prefix_node, postfix_node}
+use Rattle.formula_tree.specs.declared.Infix.{Infix}
+use Rattle.formula_tree.specs.declared.Postfix.{Postfix}
+use Rattle.formula_tree.specs.declared.Prefix.{Prefix}
+use Rattle.formula_tree.specs.Levels.{infix_node, prefix_node, postfix_node}
 use Rattle.formula_grammar.specs.declared.Profile.{Profile}
 use Rattle.formula_grammar.specs.declared.Token.{Token}
 use Rattle.formula_grammar.specs.Grammar.{Expression, lift, joined, followed, signed, parentheses, expression_tokens, expression_tree, expression_open}

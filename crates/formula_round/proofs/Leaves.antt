@@ -31,8 +31,8 @@ use Rattle.formula_tree.specs.declared.CompareKind.{CompareKind}
 use Rattle.formula_tree.specs.declared.CompareKind.TheVariants as c
 use Rattle.formula_tree.specs.declared.ProductKind.TheVariants as p
 use Rattle.formula_tree.specs.declared.SumKind.TheVariants as s
-use Rattle.formula_levels.specs.declared.Infix.{Infix}
-use Rattle.formula_levels.specs.declared.Infix.TheVariants as op
+use Rattle.formula_tree.specs.declared.Infix.{Infix}
+use Rattle.formula_tree.specs.declared.Infix.TheVariants as op
 use Rattle.formula_print.specs.Pieces.{text_constant, compare_sign, infix_sign}
 use Rattle.formula_grammar.specs.declared.Token.TheVariants as t
 use Rattle.formula_grammar.specs.Operators.{compare_token, infix_token}

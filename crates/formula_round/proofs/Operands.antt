@@ -3,13 +3,13 @@ use Rattle.std.specs.Prelude.{◌≡◌, ℕ, suc, ◌+◌, ◌-◌, ◌≤◌, 
 use Rattle.std.proofs.Common.{refl, arith}
 use Rattle.std.proofs.lemmas.Bool.Decides.{nat_tests}
 use Rattle.formula_tree.specs.declared.Node.{Node}
-use Rattle.formula_levels.specs.declared.Infix.{Infix}
-use Rattle.formula_levels.specs.declared.Infix.TheVariants as op
-use Rattle.formula_levels.specs.declared.Postfix.{Postfix}
-use Rattle.formula_levels.specs.declared.Postfix.TheVariants as postfix
-use Rattle.formula_levels.specs.declared.Prefix.{Prefix}
-use Rattle.formula_levels.specs.declared.Prefix.TheVariants as prefix
-use Rattle.formula_levels.specs.Levels.{infix_node, prefix_node, postfix_node}
+use Rattle.formula_tree.specs.declared.Infix.{Infix}
+use Rattle.formula_tree.specs.declared.Infix.TheVariants as op
+use Rattle.formula_tree.specs.declared.Postfix.{Postfix}
+use Rattle.formula_tree.specs.declared.Postfix.TheVariants as postfix
+use Rattle.formula_tree.specs.declared.Prefix.{Prefix}
+use Rattle.formula_tree.specs.declared.Prefix.TheVariants as prefix
+use Rattle.formula_tree.specs.Levels.{infix_node, prefix_node, postfix_node}
 use Rattle.formula_print.specs.declared.Kind.{Kind}
 use Rattle.formula_print.specs.declared.Kind.TheVariants as k
 use Rattle.formula_print.specs.declared.Need.{Need}

@@ -10,11 +10,11 @@ use Rattle.base_decimal.specs.Digits.{stops}
 use Rattle.formula_tree.specs.declared.CompareKind.TheVariants as c
 use Rattle.formula_tree.specs.declared.ProductKind.TheVariants as product
 use Rattle.formula_tree.specs.declared.SumKind.TheVariants as s
-use Rattle.formula_levels.specs.declared.Infix.{Infix}
-use Rattle.formula_levels.specs.declared.Infix.TheVariants as op
-use Rattle.formula_levels.specs.declared.Postfix.TheVariants as postfix
-use Rattle.formula_levels.specs.declared.Prefix.TheVariants as prefix
-use Rattle.formula_levels.specs.Levels.{infix_level}
+use Rattle.formula_tree.specs.declared.Infix.{Infix}
+use Rattle.formula_tree.specs.declared.Infix.TheVariants as op
+use Rattle.formula_tree.specs.declared.Postfix.TheVariants as postfix
+use Rattle.formula_tree.specs.declared.Prefix.TheVariants as prefix
+use Rattle.formula_tree.specs.Levels.{infix_level}
 use Rattle.formula_print.specs.declared.Kind.{Kind}
 use Rattle.formula_print.specs.declared.Kind.TheVariants as k
 use Rattle.formula_print.specs.declared.Need.{Need}

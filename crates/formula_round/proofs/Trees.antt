@@ -5,7 +5,7 @@ use Rattle.base_tables.specs.laws.Tables.{both_parts}
 use Rattle.formula_tree.specs.declared.Node.{Node}
 use Rattle.formula_tree.specs.declared.Node.TheVariants as n
 use Rattle.formula_tree.specs.Depth.{depth_of}
-use Rattle.formula_levels.specs.declared.Infix.TheVariants as op
+use Rattle.formula_tree.specs.declared.Infix.TheVariants as op
 use Rattle.formula_print.specs.declared.Kind.{Kind}
 use Rattle.formula_print.specs.declared.Kind.TheVariants as k
 use Rattle.formula_print.specs.Kinds.{is_lambda}

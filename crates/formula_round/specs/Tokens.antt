@@ -16,11 +16,11 @@ use Rattle.formula_tree.specs.declared.Parameter.{Parameter}
 use Rattle.formula_tree.specs.declared.UnaryKind.{UnaryKind}
 use Rattle.formula_tree.specs.declared.UnaryKind.TheVariants.{Minus, Percent}
 use Rattle.formula_tree.specs.Corners.{corner_row, corner_column}
-use Rattle.formula_levels.specs.declared.Infix.{Infix}
-use Rattle.formula_levels.specs.declared.Infix.TheVariants as op
-use Rattle.formula_levels.specs.declared.Postfix.TheVariants as postfix
-use Rattle.formula_levels.specs.declared.Prefix.TheVariants as prefix
-use Rattle.formula_levels.specs.Levels.{prefix_level, postfix_level}
+use Rattle.formula_tree.specs.declared.Infix.{Infix}
+use Rattle.formula_tree.specs.declared.Infix.TheVariants as op
+use Rattle.formula_tree.specs.declared.Postfix.TheVariants as postfix
+use Rattle.formula_tree.specs.declared.Prefix.TheVariants as prefix
+use Rattle.formula_tree.specs.Levels.{prefix_level, postfix_level}
 use Rattle.formula_print.specs.declared.Kind.{Kind}
 use Rattle.formula_print.specs.declared.Kind.TheVariants as k
 use Rattle.formula_print.specs.declared.Need.{Need}

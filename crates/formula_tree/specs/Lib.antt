@@ -1,3 +1,4 @@
+pub mod Levels
 pub mod Context
 pub mod Corners
 pub mod Depth

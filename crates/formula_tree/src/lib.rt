@@ -1,4 +1,5 @@
-//! Formulas as trees: the kinds of nodes, corners of references, equality and copies by value.
+//! Formulas as trees: the kinds of nodes, corners of references, equality and copies by value; and the
+//! one table of operators that the printer and the grammar share.
 //! The layers above see a tree as its kinds, and fold over it with the definitions of `specs/`.
 #![tactic(auto)]
 
@@ -7,6 +8,8 @@ mod context;
 mod copies;
 mod corner;
 mod depth;
+mod infix;
+mod level;
 mod moved;
 mod node;
 mod numbers;
@@ -15,6 +18,8 @@ mod operator;
 mod parameter;
 mod parse_error;
 mod placed;
+mod postfix;
+mod prefix;
 mod rebase;
 mod sameness;
 
@@ -25,6 +30,8 @@ pub use corner::{
     is_whole_columns, is_whole_rows, order_corners,
 };
 pub use depth::{MAX_DEPTH, is_at_most_deep};
+pub use infix::Infix;
+pub use level::{LEVELS, tighter};
 pub use moved::{CornerMap, move_node};
 pub use node::Node;
 pub use numbers::{has_canonical_numbers, has_no_negative_number};
@@ -33,4 +40,6 @@ pub use operator::{CompareKind, ProductKind, SumKind, UnaryKind};
 pub use parameter::Parameter;
 pub use parse_error::is_parse_error;
 pub use placed::is_placed;
+pub use postfix::Postfix;
+pub use prefix::Prefix;
 pub use rebase::rebase_node;

@@ -1,3 +1,6 @@
+pub mod Reading
+pub mod Turns
+pub mod KnownLaws
 pub mod Digits
 pub mod EscapeLaws
 pub mod Fitting

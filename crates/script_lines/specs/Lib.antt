@@ -1,3 +1,8 @@
+pub mod Faults
+pub mod Known
+pub mod Memory
+pub mod Took
+pub mod Status
 pub mod Parts
 pub mod Number
 pub mod References
@@ -6,3 +11,4 @@ pub mod Escapes
 pub mod Commands
 pub mod CommandFits
 pub mod Draws
+pub mod laws

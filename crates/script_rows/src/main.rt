@@ -16,7 +16,7 @@ mod verdict;
 mod words;
 
 use crate::rows::write_verdicts;
-use script_ends::{StdSink, StdSource, status_of};
+use script_lines::{StdSink, StdSource, status_of};
 use std::io;
 use std::process::ExitCode;
 

@@ -1,7 +1,7 @@
 use crate::words::Words;
 use base_styles::{Border, Color};
 use base_values::{EditError, Items};
-use name_lists::DefinedNames;
+use sheet_naming::DefinedNames;
 use std::alloc::{AllocError, Global};
 use std::fmt::Debug;
 use style_edits::read_color;

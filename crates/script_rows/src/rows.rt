@@ -1,6 +1,6 @@
 use crate::case::Case;
 use crate::verdict::judge;
-use script_ends::{RunError, Sink, Source, read_all, write_all};
+use script_lines::{RunError, Sink, Source, read_all, write_all};
 use std::alloc::{AllocError, Global};
 
 /// The case whose rows are taken, and the verdicts on those before it.

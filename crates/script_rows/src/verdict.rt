@@ -1,7 +1,7 @@
 use crate::calls::run_calls;
 use crate::case::Case;
 use crate::compare::first_apart;
-use script_ends::{MemorySink, MemorySource, SureSink, SureSource, status_of};
+use script_lines::{MemorySink, MemorySource, SureSink, SureSource, status_of};
 use script_runs::{run_script, run_script_surely};
 use std::alloc::{AllocError, Global};
 

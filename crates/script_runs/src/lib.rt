@@ -11,7 +11,7 @@ mod session;
 mod tally;
 
 pub use run::{run_script, run_script_surely};
-pub use script_ends::{
+pub use script_lines::{
     Failed, MemorySink, MemorySource, RunError, Sink, Source, StdSink, StdSource, SureSink,
     SureSource, status_of,
 };

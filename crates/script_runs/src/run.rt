@@ -1,13 +1,13 @@
 ghost use Rattle.std.specs.Prelude.{◌≡◌, ◌≢◌, ◌↔◌, ◌+◌, ◌≤◌, [], length, IfSome, OnOk, OnErr};
 ghost use Rattle.std.specs.Io.KnownBytes.{append_known};
-ghost use Rattle.script_ends.specs.Faults.{Rose};
-ghost use Rattle.script_ends.specs.Took.{TookAtMost, AddedFront};
+ghost use Rattle.script_lines.specs.Faults.{Rose};
+ghost use Rattle.script_lines.specs.Took.{TookAtMost, AddedFront};
 ghost use Rattle.script_runs.specs.Script.{commands_of, lines_of, output_of, start};
 ghost use Rattle.script_runs.specs.Session.{SoundThrough};
 ghost use Rattle.script_runs.specs.Run.{Ran};
 
 use crate::output::output_text;
-use script_ends::{MOST_BYTES, RunError, Sink, Source, SureSink, SureSource, read_all, write_all};
+use script_lines::{MOST_BYTES, RunError, Sink, Source, SureSink, SureSource, read_all, write_all};
 use std::alloc::Global;
 
 /// Reads a script to its end, runs its lines over a new workbook, and writes its output: one answer

@@ -1,3 +1,4 @@
+pub mod Listed
 pub mod FreeNames
 pub mod NextIds
 pub mod Texts

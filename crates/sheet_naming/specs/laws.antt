@@ -1,3 +1,4 @@
+pub mod ListedEquals
 pub mod LeastFree
 pub mod IdLaws
 pub mod Characters

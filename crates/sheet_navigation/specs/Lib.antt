@@ -1,3 +1,6 @@
+pub mod Chosen
+pub mod Moved
+pub mod Views
 pub mod Walk
 pub mod Navigated
 pub mod Searches

@@ -1,1 +1,3 @@
+pub mod ViewEquals
+pub mod ViewLaws
 pub mod DirectionEquals

@@ -24,14 +24,15 @@ pub use format_rules::{
     CfOperator, CfRule, Cfvo, ColorThreshold, ConditionalFormatting, IconThreshold,
 };
 pub use grid_wire::{encode_rule, encode_style};
-pub use name_lists::{DefinedNames, ScopedName};
 pub use open_book::{ClearAll, Recalc, edits_go_both_ways};
 pub use properties::SheetProperties;
 pub use sheet_actions::Model;
 pub use sheet_grid::{
     Cell, Computed, ComputedValue, Content, Link, SheetState, Workbook, Worksheet,
 };
-pub use sheet_navigation::{Navigate, NavigationDirection, RowSearch};
-pub use sheet_views::{View, selected_sheet_after_move};
+pub use sheet_naming::{DefinedNames, ScopedName};
+pub use sheet_navigation::{
+    Navigate, NavigationDirection, RowSearch, View, selected_sheet_after_move,
+};
 pub use structure::CellArrayStructure;
 pub use user_model::UserModel;

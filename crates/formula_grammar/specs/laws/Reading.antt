@@ -16,11 +16,11 @@ use Rattle.formula_tree.specs.declared.parameter.Parameter.{Parameter}
 use Rattle.formula_tree.specs.Depth.{depth_of}
 use Rattle.formula_grammar.specs.declared.after_item.AfterItem.{AfterItem}
 use Rattle.formula_grammar.specs.declared.after_item.AfterItem.TheVariants as after
-use Rattle.formula_levels.specs.declared.infix.Infix.TheVariants as between
-use Rattle.formula_levels.specs.declared.postfix.Postfix.TheVariants as postfix
-use Rattle.formula_levels.specs.declared.prefix.Prefix.{Prefix}
-use Rattle.formula_levels.specs.declared.prefix.Prefix.TheVariants as prefix
-use Rattle.formula_levels.specs.Levels.{infix_node, prefix_node, postfix_node}
+use Rattle.formula_tree.specs.declared.infix.Infix.TheVariants as between
+use Rattle.formula_tree.specs.declared.postfix.Postfix.TheVariants as postfix
+use Rattle.formula_tree.specs.declared.prefix.Prefix.{Prefix}
+use Rattle.formula_tree.specs.declared.prefix.Prefix.TheVariants as prefix
+use Rattle.formula_tree.specs.Levels.{infix_node, prefix_node, postfix_node}
 use Rattle.formula_grammar.specs.declared.operator.Operator.{Operator}
 use Rattle.formula_grammar.specs.declared.operator.Operator.TheVariants as operator
 use Rattle.formula_grammar.specs.declared.profile.Profile.{Profile}

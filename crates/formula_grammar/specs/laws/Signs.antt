@@ -1,8 +1,8 @@
 -- Signs before a tree, counted.
 use Rattle.std.specs.Prelude.{ℕ, zero, suc, ◌==◌, if◌then◌else◌, List, [], ◌∷◌, Option, Some, None, option_and_then}
-use Rattle.formula_levels.specs.declared.prefix.Prefix.{Prefix}
-use Rattle.formula_levels.specs.declared.prefix.Prefix.TheVariants.{Minus, Plus, At}
-use Rattle.formula_levels.specs.Levels.{prefix_node}
+use Rattle.formula_tree.specs.declared.prefix.Prefix.{Prefix}
+use Rattle.formula_tree.specs.declared.prefix.Prefix.TheVariants.{Minus, Plus, At}
+use Rattle.formula_tree.specs.Levels.{prefix_node}
 use Rattle.formula_tree.specs.declared.node.Node.{Node}
 use Rattle.formula_grammar.specs.declared.token.Token.{Token}
 use Rattle.formula_grammar.specs.Operators.{prefix_under}

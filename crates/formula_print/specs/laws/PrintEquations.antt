@@ -22,9 +22,9 @@ use Rattle.formula_tree.specs.declared.Node.TheOpen.{Node-F}
 use Rattle.formula_tree.specs.declared.Node.TheFolds.{fold-Node, fold-roll-Node}
 use Rattle.formula_print.specs.declared.kind.Kind.TheVariants as k
 use Rattle.formula_print.specs.declared.kind.Need.TheVariants as need
-use Rattle.formula_levels.specs.declared.infix.Infix.TheVariants as op
-use Rattle.formula_levels.specs.declared.postfix.Postfix.TheVariants as postfix
-use Rattle.formula_levels.specs.declared.prefix.Prefix.TheVariants as prefix
+use Rattle.formula_tree.specs.declared.infix.Infix.TheVariants as op
+use Rattle.formula_tree.specs.declared.postfix.Postfix.TheVariants as postfix
+use Rattle.formula_tree.specs.declared.prefix.Prefix.TheVariants as prefix
 use Rattle.formula_print.specs.declared.style.Style.{Style}
 use Rattle.formula_print.specs.References.{reference_text, range_text, reference_cell_first, range_cell_first}
 use Rattle.formula_print.specs.Pieces.{text_constant, function_word, array_text}

@@ -1,6 +1,6 @@
 // What no clause says: that calls succeed with ample memory, and that each end stands under the
 // calls that are generic over ends.
-use script_ends::{
+use script_lines::{
     Failed, MemorySink, MemorySource, RunError, Sink, Source, StdSink, StdSource, SureSink,
     SureSource, read_all, write_all,
 };

@@ -6,7 +6,7 @@ ghost use Rattle.base_values.specs.declared.EditError.TheVariants.{NoMemory};
 ghost use Rattle.formula_tree.specs.Numbers.{has_canonical_numbers};
 ghost use Rattle.name_edits.specs.NameEdits.{name_goes, update_goes};
 ghost use Rattle.name_edits.specs.NameEdits.NameEdit.{Add, Remove, Update};
-ghost use Rattle.name_lists.specs.Listed.{listed_names};
+ghost use Rattle.sheet_naming.specs.Listed.{listed_names};
 ghost use Rattle.edit_plans.specs.Edits.Edit.{ChangeNames};
 ghost use Rattle.open_book.specs.Machine.{edit_of};
 ghost use Rattle.user_model.specs.Reading.{formula_typed};
@@ -21,8 +21,8 @@ use base_values::{EditError, Items, Position};
 use edit_plans::{plan_changed_name, plan_new_name, plan_removed_name, sheet_edits_go_both_ways};
 use formula_tree::Node;
 use name_edits::{is_name_formula, name_goes, update_goes};
-use name_lists::{ScopedName, listed_names};
 use open_book::Recalc;
+use sheet_naming::{ScopedName, listed_names};
 
 impl<R: Recalc + Drop> UserModel<R> {
     /// The formula of a defined name that a text is read as, at A1.

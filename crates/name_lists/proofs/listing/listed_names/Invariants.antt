@@ -1,7 +1,0 @@
-use Rattle.std.proofs.Common.{◌≡◌, map, take}
-use Rattle.name_lists.specs.Listed.{listed_name}
-use Rattle.name_lists.proofs.listing.listed_names.Given as goal
-
--- what is listed of the first names
-abbrev pub invariant-loop-name : goal.invariant-loop-name
-invariant-loop-name l = l.list ≡ map (listed_name l.locale l.language l.workbook) (take l.name-index l.name-items)

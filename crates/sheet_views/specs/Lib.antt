@@ -1,4 +1,0 @@
-pub mod Chosen
-pub mod Moved
-pub mod Views
-pub mod laws

@@ -1,2 +1,0 @@
-pub mod ViewEquals
-pub mod ViewLaws

@@ -1,8 +1,8 @@
 ghost use Rattle.std.specs.Prelude.{◌≡◌, ◌≤◌};
 ghost use Rattle.formula_tree.specs.Levels.{infix_level, infix_node};
 
+use crate::{CompareKind, Node, ProductKind, SumKind};
 use base_shared::Shared;
-use formula_tree::{CompareKind, Node, ProductKind, SumKind};
 
 /// An operator between two operands.
 #[derive(Clone, Copy)]

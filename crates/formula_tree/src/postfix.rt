@@ -1,8 +1,8 @@
 ghost use Rattle.std.specs.Prelude.{◌≡◌};
 ghost use Rattle.formula_tree.specs.Levels.{postfix_level, postfix_node};
 
+use crate::{Node, UnaryKind};
 use base_shared::Shared;
-use formula_tree::{Node, UnaryKind};
 
 /// An operator behind its operand.
 #[derive(Clone, Copy)]

@@ -6,7 +6,7 @@ use Rattle.sheet_grid.specs.Book.{Book}
 use Rattle.sheet_rules.specs.WellFormed.{broken_rule}
 
 -- the refusal of a broken rule
-abbrev unless_broken : Option ℕ → Book → Result Book EditError
+abbrev pub unless_broken : Option ℕ → Book → Result Book EditError
 unless_broken None book = Ok book
 unless_broken (Some rule) book = Err (IllFormed rule)
 

@@ -1,7 +1,7 @@
 -- A model that is opened from bytes.
-use Rattle.std.proofs.Common.{◌≡◌, ℕ, List, Result, Ok, Err, refl, ap, sym, subst, ◌∙◌}
-use Rattle.std.specs.Prelude.{IfOk, IsOkUnless}
-use Rattle.base_values.specs.Answers.{ok_or}
+use Rattle.std.proofs.Common.{◌≡◌, ◌≢◌, ℕ, List, Option, None, Some, Result, Ok, Err, refl, ap, sym, subst, ◌∙◌}
+use Rattle.std.specs.Prelude.{IfErr, IfOk, IsOkAnd, IsOkUnless}
+use Rattle.base_values.specs.Answers.{and_then, map_ok, ok_or}
 use Rattle.base_values.specs.declared.EditError.{EditError}
 use Rattle.base_values.specs.declared.EditError.TheVariants.{LanguageName, NoMemory, ParseWorkbook}
 use Rattle.base_tables.specs.declared.Language.{Language}
@@ -9,7 +9,9 @@ use Rattle.base_tables.specs.Language.{language_of_name}
 use Rattle.base_wire.specs.Reads.{ReadsWhole}
 use Rattle.grid_wire.specs.BookBytes.{IsBook}
 use Rattle.sheet_grid.specs.Book.{Book}
-use Rattle.sheet_actions.specs.Checked.{checked}
+use Rattle.sheet_rules.specs.WellFormed.{IsWellFormed}
+use Rattle.sheet_actions.specs.Checked.{checked, unless_broken}
+use Rattle.open_book.specs.Document.{Document}
 use Rattle.open_book.specs.Machine.{State, begun}
 use Rattle.open_book.specs.Stands.{OpensOrNoMemory, StandsFor}
 use Rattle.open_book.specs.Values.{Session}
@@ -55,3 +57,24 @@ module _ (name : List ℕ) (l : Language) (known : ok_or LanguageName (language_
   read_opens bytes read book result reads rules stands only = λ other is.
       subst (λ (b : Book). OpensOrNoMemory result (book_state name (checked b))) (one_book bytes read other reads is)
       (subst (λ (expected : Result State EditError). OpensOrNoMemory result expected) (sym (found_state (checked read) book rules)) (opened_by result (begun l book) stands only))
+
+-- the bytes of a well-formed workbook open as that workbook, where the language has a name
+module _ (name : List ℕ) (book : Book) (rules : IsWellFormed book) where
+  opened_as : (result : Result Session EditError) → OpensOrNoMemory result (book_state name (checked book)) → OpensOrNoMemory result (book_state name (Ok book))
+  opened_as result opens = subst (λ (found : Option ℕ). OpensOrNoMemory result (book_state name (unless_broken found book))) rules opens
+
+  pub opened_equal : (result : Result Session EditError) → OpensOrNoMemory result (book_state name (checked book)) → IfOk result (λ s. s.document.book ≡ book)
+  opened_equal (Err e) opens = tt
+  opened_equal (Ok s) opens = in_language (language_of_name name) (opened_as (Ok s) opens).done where
+    in_language : (found : Option Language) → IsOkAnd (and_then (ok_or LanguageName found) (λ l. map_ok (begun l) (Ok book))) (StandsFor s.document) → s.document.book ≡ book
+    in_language None never = absurd never
+    in_language (Some l) stands = ap (λ (doc : Document). doc.book) stands.document
+
+  pub opened_only : (result : Result Session EditError) → OpensOrNoMemory result (book_state name (checked book))
+      → IfErr result (λ e. e ≢ NoMemory → ok_or LanguageName (language_of_name name) ≡ Err e)
+  opened_only (Ok s) opens = tt
+  opened_only (Err e) opens = λ other. in_language (language_of_name name) ((opened_as (Err e) opens).refused other) where
+    in_language : (found : Option Language) → ◌≡◌ {A = Result State EditError} (and_then (ok_or LanguageName found) (λ l. map_ok (begun l) (Ok book))) (Err e)
+        → ◌≡◌ {A = Result Language EditError} (ok_or LanguageName found) (Err e)
+    in_language None is = cc
+    in_language (Some l) is = absurd cc

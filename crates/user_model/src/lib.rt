@@ -7,6 +7,7 @@
 
 mod cell_style;
 mod cell_type;
+mod laws;
 mod properties;
 mod reading;
 mod structure;
@@ -24,6 +25,7 @@ pub use format_rules::{
     CfOperator, CfRule, Cfvo, ColorThreshold, ConditionalFormatting, IconThreshold,
 };
 pub use grid_wire::{encode_rule, encode_style};
+pub use laws::opened_again;
 pub use open_book::{ClearAll, Recalc, edits_go_both_ways};
 pub use properties::SheetProperties;
 pub use sheet_actions::Model;

@@ -7,10 +7,10 @@ use Rattle.sheet_grid.specs.declared.SheetState.TheVariants.{Hidden}
 use Rattle.line_sizes.specs.ShownLines.{next_shown}
 use Rattle.sheet_grid.specs.Sheet.{Sheet}
 use Rattle.sheet_grid.specs.Book.{Book, sheet_at}
-use Rattle.sheet_navigation.specs.declared.View.{View}
-use Rattle.sheet_navigation.specs.Chosen.{id_at, next_visible, selected_after_delete, viewed}
-use Rattle.sheet_navigation.specs.Moved.{selected_sheet_after_move}
-use Rattle.sheet_navigation.specs.Views.{range_from}
+use Rattle.sheet_ids.specs.declared.View.{View}
+use Rattle.sheet_ids.specs.Chosen.{id_at, next_visible, selected_after_delete, viewed}
+use Rattle.sheet_ids.specs.Moved.{selected_sheet_after_move}
+use Rattle.sheet_ids.specs.Views.{range_from}
 use Rattle.sheet_history.specs.declared.LineAxis.{LineAxis}
 use Rattle.sheet_history.specs.declared.LineAxis.TheVariants.{Rows, Columns}
 use Rattle.sheet_history.specs.LineDiffs.{along_of}

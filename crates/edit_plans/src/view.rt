@@ -12,7 +12,7 @@ use base_values::{LAST_COLUMN, LAST_ROW};
 use line_sizes::next_shown;
 use sheet_grid::{SheetState, Workbook, Worksheet};
 use sheet_history::{LineAxis, SheetField};
-use sheet_navigation::{next_visible, selected_after_delete, selected_sheet_after_move};
+use sheet_ids::{next_visible, selected_after_delete, selected_sheet_after_move};
 
 /// The index that a new sheet of a workbook selects, whichever was selected: its own. It takes no
 /// memory, as the others here.

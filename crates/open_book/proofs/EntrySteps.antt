@@ -12,7 +12,7 @@ use Rattle.sheet_history.specs.laws.SoundEntries.{entries_forwarded, entries_bac
 use Rattle.edit_plans.specs.Edits.{Edit, changed, is_of_entries, is_silent, record_of}
 use Rattle.edit_plans.specs.Edits.Edit.{Input, ArrayInput, SetLink, Merge, Unmerge, Lines, MoveLines, AddSheet, CopySheet, DeleteSheet, MoveSheet, RenameSheet, ChangeNames, EditRules, SetField, SetSize, SetHidden, SetRangeStyle, ClearRange, ClearFormatting, PasteStyles, SetSetting, Fill}
 use Rattle.edit_plans.specs.Plans.{IsPlan, Plans}
-use Rattle.sheet_navigation.specs.declared.View.{View}
+use Rattle.sheet_ids.specs.declared.View.{View}
 use Rattle.edit_plans.specs.ViewSteps.{selected_by, view_asked}
 use Rattle.open_book.specs.BothWays.{GoesBothWays}
 use Rattle.open_book.specs.Document.{Document}

@@ -13,10 +13,10 @@ use Rattle.sheet_rules.specs.WellFormed.{IsWellFormed}
 use Rattle.sheet_history.specs.declared.QueueDiffs.{QueueDiffs}
 use Rattle.sheet_history.specs.Diffs.{replayed}
 use Rattle.sheet_wire.specs.QueueBytes.{IsKnownQueue, FitsQueue, encode_queue}
-use Rattle.sheet_navigation.specs.declared.View.{View}
-use Rattle.sheet_navigation.specs.Chosen.{id_at}
-use Rattle.sheet_navigation.specs.Views.{IsViewOf, is_range, range_chosen, range_from}
-use Rattle.sheet_navigation.specs.laws.ViewLaws.{viewed_there}
+use Rattle.sheet_ids.specs.declared.View.{View}
+use Rattle.sheet_ids.specs.Chosen.{id_at}
+use Rattle.sheet_ids.specs.Views.{IsViewOf, is_range, range_chosen, range_from}
+use Rattle.sheet_ids.specs.laws.ViewLaws.{viewed_there}
 use Rattle.edit_plans.specs.Edits.{Edit, changed, is_of_entries, is_of_sheets, is_silent}
 use Rattle.edit_plans.specs.Plans.{Plans, PlansSheets}
 use Rattle.edit_plans.specs.Edits.Edit.{DeleteSheet, SetField}

@@ -4,7 +4,7 @@ use Rattle.std.specs.Prelude.{IsOk, IsOkAnd}
 use Rattle.base_values.specs.declared.EditError.{EditError}
 use Rattle.base_values.specs.Answers.{map_ok}
 use Rattle.sheet_grid.specs.Book.{Book}
-use Rattle.sheet_navigation.specs.declared.View.{View}
+use Rattle.sheet_ids.specs.declared.View.{View}
 use Rattle.sheet_history.specs.declared.Diff.{Diff}
 use Rattle.sheet_history.specs.Diffs.{IsCanonicalList, book_after}
 use Rattle.edit_plans.specs.Edits.{Edit, changed, is_silent}

@@ -7,7 +7,7 @@ use Rattle.base_values.specs.declared.EditError.{EditError}
 use Rattle.base_values.specs.declared.EditError.TheVariants.{NoMemory}
 use Rattle.base_values.specs.Answers.{Edits, map_ok}
 use Rattle.sheet_grid.specs.Book.{Book}
-use Rattle.sheet_navigation.specs.declared.View.{View}
+use Rattle.sheet_ids.specs.declared.View.{View}
 use Rattle.sheet_history.specs.declared.Diff.{Diff}
 use Rattle.sheet_history.specs.declared.DiffType.{DiffType}
 use Rattle.sheet_history.specs.declared.DiffType.TheVariants.{Undo, Redo}

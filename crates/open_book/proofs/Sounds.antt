@@ -15,12 +15,12 @@ use Rattle.sheet_history.specs.Diffs.{book_after, book_before, follow, in_entry,
 use Rattle.sheet_history.specs.laws.ReplayLaws.{replayed_from-push}
 use Rattle.sheet_history.specs.laws.TestedLaws.{tested_rules, entry_rules}
 use Rattle.sheet_wire.specs.QueueBytes.{IsKnownEntry, encode_queue}
-use Rattle.sheet_navigation.specs.declared.View.{View}
+use Rattle.sheet_ids.specs.declared.View.{View}
 use Rattle.edit_plans.specs.Edits.{Edit, changed, is_silent}
 use Rattle.sheet_history.specs.Selection.{selection_followed}
-use Rattle.sheet_navigation.specs.Chosen.{id_at}
-use Rattle.sheet_navigation.specs.Views.{IsViewOf}
-use Rattle.sheet_navigation.specs.laws.ViewLaws.{viewed_there}
+use Rattle.sheet_ids.specs.Chosen.{id_at}
+use Rattle.sheet_ids.specs.Views.{IsViewOf}
+use Rattle.sheet_ids.specs.laws.ViewLaws.{viewed_there}
 use Rattle.edit_plans.specs.ViewSteps.{view_after}
 use Rattle.edit_plans.specs.laws.SeenLaws.{seen_after, some_sheet}
 use Rattle.open_book.specs.Machine.{Step, State, step_record, begun, undo_list, redo_list, entry, moved, edited, edit_of, undo_stale, undo_from, undo_of, redo_stale, redo_from, redo_of, seen_along, synced_of, outside, received, sync_bytes}

@@ -5,8 +5,8 @@ use Rattle.base_values.specs.declared.EditError.{EditError}
 use Rattle.base_values.specs.Answers.{map_ok}
 use Rattle.base_tables.specs.declared.Language.{Language}
 use Rattle.sheet_grid.specs.Book.{Book}
-use Rattle.sheet_navigation.specs.declared.View.{View}
-use Rattle.sheet_navigation.specs.Views.{first_view, range_chosen}
+use Rattle.sheet_ids.specs.declared.View.{View}
+use Rattle.sheet_ids.specs.Views.{first_view, range_chosen}
 use Rattle.sheet_history.specs.declared.Diff.{Diff}
 use Rattle.sheet_history.specs.declared.DiffType.{DiffType}
 use Rattle.sheet_history.specs.declared.DiffType.TheVariants.{Undo, Redo}

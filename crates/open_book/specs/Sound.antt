@@ -10,7 +10,7 @@ use Rattle.sheet_grid.specs.Book.{Book, ids_of, sheet_at}
 use Rattle.sheet_naming.specs.NextIds.{next_id}
 use Rattle.sheet_rules.specs.WellFormed.{IsWellFormed}
 use Rattle.sheet_lines.specs.Followed.{book_followed}
-use Rattle.sheet_navigation.specs.Views.{IsViewOf}
+use Rattle.sheet_ids.specs.Views.{IsViewOf}
 use Rattle.sheet_history.specs.declared.Diff.{Diff}
 use Rattle.sheet_history.specs.declared.LineAxis.{LineAxis}
 use Rattle.sheet_history.specs.declared.QueueDiffs.{QueueDiffs}

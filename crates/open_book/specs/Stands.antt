@@ -8,7 +8,7 @@ use Rattle.sheet_history.specs.declared.Diff.{Diff}
 use Rattle.sheet_history.specs.declared.QueueDiffs.{QueueDiffs}
 use Rattle.sheet_history.specs.Diffs.{IsCanonicalList}
 use Rattle.edit_plans.specs.Edits.{Edit, changed, is_silent, record_of}
-use Rattle.sheet_navigation.specs.declared.View.{View}
+use Rattle.sheet_ids.specs.declared.View.{View}
 use Rattle.edit_plans.specs.ViewSteps.{selected_by, view_asked}
 use Rattle.open_book.specs.Document.{Document, document}
 use Rattle.open_book.specs.Machine.{State, applied}

@@ -5,7 +5,7 @@ use Rattle.base_values.specs.declared.EditError.TheVariants.{DiffRefused}
 use Rattle.sheet_grid.specs.Book.{Book}
 use Rattle.sheet_grid.specs.Computed.{Values, no_values}
 use Rattle.base_tables.specs.declared.Language.{Language}
-use Rattle.sheet_navigation.specs.declared.View.{View}
+use Rattle.sheet_ids.specs.declared.View.{View}
 use Rattle.sheet_history.specs.declared.QueueDiffs.{QueueDiffs}
 use Rattle.open_book.specs.Document.{Document}
 

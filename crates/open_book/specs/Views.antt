@@ -7,9 +7,9 @@ use Rattle.base_axis.specs.Rectangles.{is_inside, last_column, last_row}
 use Rattle.base_values.specs.declared.EditError.{EditError}
 use Rattle.base_values.specs.Answers.{map_ok}
 use Rattle.sheet_grid.specs.Book.{Book, ids_of, sheet_at}
-use Rattle.sheet_navigation.specs.declared.View.{View}
-use Rattle.sheet_navigation.specs.Views.{range_from}
-use Rattle.sheet_navigation.specs.Chosen.{id_at, viewed}
+use Rattle.sheet_ids.specs.declared.View.{View}
+use Rattle.sheet_ids.specs.Views.{range_from}
+use Rattle.sheet_ids.specs.Chosen.{id_at, viewed}
 use Rattle.sheet_history.specs.declared.Diff.{Diff}
 use Rattle.sheet_history.specs.declared.DiffType.{DiffType}
 use Rattle.sheet_history.specs.declared.LineAxis.{LineAxis}

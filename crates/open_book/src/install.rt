@@ -14,7 +14,7 @@ use sheet_history::{
     DiffList, DiffType, back, back_in_place, follow_in_place, forward, forward_in_place,
     selection_followed,
 };
-use sheet_navigation::{View, viewed, viewed_id};
+use sheet_ids::{View, viewed, viewed_id};
 use std::alloc::Global;
 
 /// The well-formed workbook after a list, in its direction, or the refusal of the list.

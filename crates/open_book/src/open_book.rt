@@ -28,8 +28,8 @@ use line_map::{EditKind, LineEdit};
 use sheet_actions::{plan_delete, plan_insert, plan_move};
 use sheet_grid::{DefaultStyle, Workbook, Worksheet};
 use sheet_history::{Diff, DiffList, DiffType, History, LineAxis, QueueDiffs};
+use sheet_ids::{View, viewed, viewed_id};
 use sheet_lines::{KeptLines, line_edit};
-use sheet_navigation::{View, viewed, viewed_id};
 use std::alloc::Global;
 
 /// A workbook with the records of its steps, and with what other copies have not had yet.

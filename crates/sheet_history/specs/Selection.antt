@@ -1,7 +1,7 @@
 -- Which sheet is selected after a list of diffs is followed: the one that was, wherever sheets are taken.
 use Rattle.std.specs.Prelude.{ℕ, ◌==◌, Bool, true, false, List, [], ◌∷◌, map, reverse, position, Option, Some, None}
 use Rattle.std.specs.List.{insert, list_any, remove}
-use Rattle.sheet_navigation.specs.Moved.{selected_sheet_after_move}
+use Rattle.sheet_ids.specs.Moved.{selected_sheet_after_move}
 use Rattle.sheet_history.specs.declared.diff.Diff.{Diff}
 use Rattle.sheet_history.specs.declared.diff.Diff.TheVariants.{Cell as CellDiff, Link as LinkDiff, Merges as MergesDiff, Field as FieldDiff, Lines as LinesDiff, NewSheet as NewDiff, DuplicateSheet as CopyDiff, DeleteSheet as DeletionDiff, MoveSheet as MoveDiff, RenameSheet as RenameDiff, ChangeName as NameDiff, Rule as RuleDiff, Attributes as AttrDiff, Setting as SettingDiff}
 use Rattle.sheet_history.specs.declared.diff.DiffType.{DiffType}

@@ -11,7 +11,7 @@ ghost use Rattle.sheet_history.specs.Selection.{ids_after, ids_moved, ids_withou
 use crate::diff::{Diff, DiffType};
 use base_values::EditError;
 use sheet_grid::Workbook;
-use sheet_navigation::selected_sheet_after_move;
+use sheet_ids::selected_sheet_after_move;
 
 /// What a diff does to the list of the sheets, in one direction.
 #[derive(Clone, Copy)]

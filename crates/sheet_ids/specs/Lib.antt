@@ -1,2 +1,5 @@
 pub mod Ids
+pub mod Chosen
+pub mod Moved
+pub mod Views
 pub mod laws

@@ -1,6 +1,3 @@
-pub mod Chosen
-pub mod Moved
-pub mod Views
 pub mod Walk
 pub mod Navigated
 pub mod Searches

@@ -1,3 +1,1 @@
-pub mod ViewEquals
-pub mod ViewLaws
 pub mod DirectionEquals

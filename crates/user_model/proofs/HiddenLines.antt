@@ -8,7 +8,7 @@ use Rattle.line_sizes.specs.declared.LineChange.TheVariants.{Hidden}
 use Rattle.line_sizes.specs.LineChanges.{has_lines, line_count, lines_from}
 use Rattle.sheet_grid.specs.Sheet.{Sheet}
 use Rattle.sheet_grid.specs.Book.{Book, sheet_at, with_sheet}
-use Rattle.sheet_navigation.specs.declared.View.{View}
+use Rattle.sheet_ids.specs.declared.View.{View}
 use Rattle.sheet_history.specs.declared.LineAxis.{LineAxis}
 use Rattle.sheet_history.specs.LineDiffs.{along_of}
 use Rattle.edit_plans.specs.LineRecords.{lines_set}

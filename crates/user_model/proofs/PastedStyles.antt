@@ -10,8 +10,8 @@ use Rattle.base_axis.specs.Rectangles.{anchor_place, is_inside, last_column, las
 use Rattle.base_styles.specs.declared.Style.{Style}
 use Rattle.sheet_grid.specs.Sheet.{Sheet}
 use Rattle.sheet_grid.specs.Book.{Book, sheet_at, sheet_edit, with_sheet}
-use Rattle.sheet_navigation.specs.declared.View.{View}
-use Rattle.sheet_navigation.specs.Views.{range_from}
+use Rattle.sheet_ids.specs.declared.View.{View}
+use Rattle.sheet_ids.specs.Views.{range_from}
 use Rattle.range_styles.specs.declared.AreaKind.TheVariants.{OtherPlaces}
 use Rattle.range_styles.specs.Styled.{planned_styles}
 use Rattle.range_styles.specs.Tiles.{tiles}

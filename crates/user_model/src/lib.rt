@@ -32,9 +32,8 @@ pub use sheet_actions::Model;
 pub use sheet_grid::{
     Cell, Computed, ComputedValue, Content, Link, SheetState, Workbook, Worksheet,
 };
+pub use sheet_ids::{View, selected_sheet_after_move};
 pub use sheet_naming::{DefinedNames, ScopedName};
-pub use sheet_navigation::{
-    Navigate, NavigationDirection, RowSearch, View, selected_sheet_after_move,
-};
+pub use sheet_navigation::{Navigate, NavigationDirection, RowSearch};
 pub use structure::CellArrayStructure;
 pub use user_model::UserModel;

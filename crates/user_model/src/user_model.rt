@@ -49,7 +49,7 @@ use open_book::{OpenBook, Recalc, Results};
 use sheet_actions::Model as PlainModel;
 use sheet_grid::{Content, Link, Workbook};
 use sheet_history::DiffList;
-use sheet_navigation::View;
+use sheet_ids::View;
 use std::alloc::Global;
 use std::fmt;
 use std::marker::Model;

@@ -17,7 +17,7 @@ use edit_plans::{axis_end, pasted_area, range_by_hiding, selected_by_deletion, s
 use line_sizes::has_lines;
 use sheet_grid::Workbook;
 use sheet_history::{LineAxis, SheetField};
-use sheet_navigation::{View, viewed, viewed_id};
+use sheet_ids::{View, viewed, viewed_id};
 
 /// The view of the sheet at an index. It takes no memory.
 pub(crate) fn choose_sheet(workbook: &Workbook, sheet: u32, view: View) -> Result<View, EditError>

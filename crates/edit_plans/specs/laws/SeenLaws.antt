@@ -20,10 +20,10 @@ use Rattle.sheet_rules.specs.laws.WellFormedLaws.{well_formed_parts}
 use Rattle.sheet_history.specs.declared.LineAxis.{LineAxis}
 use Rattle.sheet_history.specs.declared.LineAxis.TheVariants.{Rows, Columns}
 use Rattle.sheet_history.specs.LineDiffs.{along_of}
-use Rattle.sheet_navigation.specs.declared.View.{View}
-use Rattle.sheet_navigation.specs.Chosen.{id_at}
-use Rattle.sheet_navigation.specs.Views.{IsViewOf, are_lines, is_range, is_rectangle, range_from}
-use Rattle.sheet_navigation.specs.laws.ViewLaws.{viewed_there}
+use Rattle.sheet_ids.specs.declared.View.{View}
+use Rattle.sheet_ids.specs.Chosen.{id_at}
+use Rattle.sheet_ids.specs.Views.{IsViewOf, are_lines, is_range, is_rectangle, range_from}
+use Rattle.sheet_ids.specs.laws.ViewLaws.{viewed_there}
 use Rattle.edit_plans.specs.Edits.{Edit, changed}
 use Rattle.edit_plans.specs.Edits.Edit.{SetHidden, PasteStyles}
 use Rattle.edit_plans.specs.LineEdits.{attrs_in, attrs_set}

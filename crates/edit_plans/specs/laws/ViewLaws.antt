@@ -2,7 +2,7 @@
 use Rattle.std.proofs.Common.{◌≡◌, Bool, true, false, refl}
 use Rattle.std.specs.Prelude.{IsTrue}
 use Rattle.sheet_grid.specs.Book.{Book}
-use Rattle.sheet_navigation.specs.declared.View.{View}
+use Rattle.sheet_ids.specs.declared.View.{View}
 use Rattle.edit_plans.specs.Edits.{Edit, is_of_sheets}
 use Rattle.edit_plans.specs.Edits.Edit.{SetHidden, PasteStyles}
 use Rattle.edit_plans.specs.ViewSteps.{view_asked}

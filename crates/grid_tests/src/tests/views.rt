@@ -1,6 +1,6 @@
 use base_values::{EditError, Items};
 use sheet_grid::{SheetState, Worksheet};
-use sheet_navigation::{
+use sheet_ids::{
     View, next_visible, selected_after_delete, selected_sheet_after_move, viewed, viewed_id,
 };
 use std::alloc::Global;

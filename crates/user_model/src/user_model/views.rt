@@ -3,7 +3,7 @@
 ghost use Rattle.std.specs.Prelude.{◌≡◌, ◌≢◌, length, Err, IfOk};
 ghost use Rattle.base_values.specs.Answers.{Edits, map_ok};
 ghost use Rattle.base_values.specs.declared.EditError.TheVariants.{NoMemory};
-ghost use Rattle.sheet_navigation.specs.Views.{IsViewOf, range_chosen};
+ghost use Rattle.sheet_ids.specs.Views.{IsViewOf, range_chosen};
 ghost use Rattle.open_book.specs.Machine.{looking, range_selected, sheet_selected};
 ghost use Rattle.open_book.specs.Stands.{Moves, OnStates, Steps};
 ghost use Rattle.open_book.specs.Values.{seeing};
@@ -13,7 +13,7 @@ use super::UserModel;
 use crate::view_steps::choose_sheet;
 use base_values::EditError;
 use open_book::Recalc;
-use sheet_navigation::View;
+use sheet_ids::View;
 
 impl<R: Recalc + Drop> UserModel<R> {
     /// What is selected of the workbook: a sheet by its index, counted from 0, and a rectangle of it

@@ -1,8 +1,8 @@
 use Rattle.std.proofs.Common.{ap, length, subst, sym, Result, Ok, Err, ◌∙◌}
 use Rattle.std.specs.Prelude.{IfOk}
 use Rattle.base_values.specs.declared.EditError.{EditError}
-use Rattle.sheet_navigation.specs.declared.View.{View}
-use Rattle.sheet_navigation.specs.Views.{IsViewOf}
+use Rattle.sheet_ids.specs.declared.View.{View}
+use Rattle.sheet_ids.specs.Views.{IsViewOf}
 use Rattle.open_book.specs.Machine.{looking}
 use Rattle.open_book.specs.Stands.{Moves}
 use Rattle.open_book.proofs.Moving.{looked, not_looked}

@@ -1,5 +1,5 @@
 use Rattle.std.proofs.Common.{ap, length, subst, sym}
-use Rattle.sheet_navigation.specs.Views.{IsViewOf}
+use Rattle.sheet_ids.specs.Views.{IsViewOf}
 use Rattle.open_book.specs.Opened.{document_in}
 use Rattle.open_book.specs.Values.{Session, seeing}
 use Rattle.open_book.proofs.Moving.{seen_reached}

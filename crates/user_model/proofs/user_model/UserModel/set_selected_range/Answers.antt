@@ -2,7 +2,7 @@ use Rattle.std.proofs.Common.{ap, length, subst, ◌∙◌, w32, SFits}
 use Rattle.std.specs.Prelude.{IfOk}
 use Rattle.std.proofs.lemmas.Int.{to_z-of_z}
 use Rattle.base_values.specs.Answers.{Edits, map_ok}
-use Rattle.sheet_navigation.specs.Views.{IsViewOf, range_chosen}
+use Rattle.sheet_ids.specs.Views.{IsViewOf, range_chosen}
 use Rattle.open_book.specs.Document.{Document}
 use Rattle.open_book.specs.Machine.{looking}
 use Rattle.open_book.specs.Opened.{document_in}

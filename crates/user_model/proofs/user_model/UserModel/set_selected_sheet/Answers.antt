@@ -6,7 +6,7 @@ use Rattle.open_book.specs.Machine.{looking}
 use Rattle.open_book.specs.Opened.{document_in}
 use Rattle.open_book.specs.Stands.{Moves}
 use Rattle.open_book.specs.Values.{Session, seeing}
-use Rattle.sheet_navigation.specs.Views.{IsViewOf}
+use Rattle.sheet_ids.specs.Views.{IsViewOf}
 use Rattle.open_book.proofs.Moving.{sheet_seen}
 use Rattle.open_book.specs.Views.{sheet_chosen}
 use Rattle.user_model.proofs.user_model.UserModel.set_selected_sheet.Goals as goal

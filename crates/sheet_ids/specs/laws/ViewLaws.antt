@@ -5,10 +5,10 @@ use Rattle.std.specs.List.{insert, remove}
 use Rattle.std.specs.Option.{option_eq}
 use Rattle.std.proofs.lemmas.Bool.Decides.{nat_tests}
 use Rattle.sheet_grid.specs.Sheet.{Sheet}
-use Rattle.sheet_navigation.specs.declared.view.View.{View}
-use Rattle.sheet_navigation.specs.Chosen.{id_at, selected_after_delete, viewed}
-use Rattle.sheet_navigation.specs.Moved.{selected_sheet_after_move, without}
-use Rattle.sheet_navigation.specs.Views.{IsViewOf, first_range, is_rectangle}
+use Rattle.sheet_ids.specs.declared.view.View.{View}
+use Rattle.sheet_ids.specs.Chosen.{id_at, selected_after_delete, viewed}
+use Rattle.sheet_ids.specs.Moved.{selected_sheet_after_move, without}
+use Rattle.sheet_ids.specs.Views.{IsViewOf, first_range, is_rectangle}
 
 module _ {X : Type 0} where
   -- ---- items of a list where one goes or comes

@@ -4,8 +4,8 @@ use Rattle.std.specs.Bool.{Decides}
 use Rattle.std.specs.Cmp.{signed_Decides, unsigned_Decides}
 use Rattle.std.specs.Cmp.Lexicographic.{pointwise_decides}
 use Rattle.std.proofs.lemmas.Bool.Decides.{Decides-like, Decides-and}
-use Rattle.sheet_navigation.specs.declared.view.View.{View}
-use Rattle.sheet_navigation.specs.contracts.view.ViewPartialEq.TheImpl as view
+use Rattle.sheet_ids.specs.declared.view.View.{View}
+use Rattle.sheet_ids.specs.contracts.view.ViewPartialEq.TheImpl as view
 
 pub view_equals : (a b : View) → Decides (view.ghosts.eq a b) (a ≡ b)
 view_equals a b =

@@ -1,5 +1,5 @@
 ghost use Rattle.std.specs.Prelude.{◌≡◌};
-ghost use Rattle.sheet_navigation.specs.Moved.{without, selected_sheet_after_move};
+ghost use Rattle.sheet_ids.specs.Moved.{without, selected_sheet_after_move};
 
 /// The index of a sheet after another one, at `from`, was taken out.
 fn without(selected: u32, from: u32) -> u32

@@ -1,5 +1,5 @@
 ghost use Rattle.std.specs.Prelude.{◌≡◌};
-ghost use Rattle.sheet_navigation.specs.Views.{first_view, are_lines, is_range, range_chosen};
+ghost use Rattle.sheet_ids.specs.Views.{first_view, are_lines, is_range, range_chosen};
 
 use base_values::{EditError, Exact, LAST_COLUMN, LAST_ROW};
 
@@ -14,7 +14,7 @@ pub struct View {
 
 impl Exact for View {
     ghost use Rattle.std.proofs.Common.{rules};
-    ghost use Rattle.sheet_navigation.specs.laws.ViewEquals.{view_equals};
+    ghost use Rattle.sheet_ids.specs.laws.ViewEquals.{view_equals};
 
     ghost copies = { λ a b h. Prim.search rules };
 

@@ -2,7 +2,7 @@
 use Rattle.std.specs.Prelude.{◌≡◌, ◌<◌, ℕ, ℤ, pos, Bool, true, false, ◌&&◌, int_le, List, [], ◌∷◌, Result, Ok, Err, if◌then◌else◌}
 use Rattle.base_values.specs.declared.EditError.{EditError}
 use Rattle.base_values.specs.declared.EditError.TheVariants.{InvalidArea}
-use Rattle.sheet_navigation.specs.declared.view.View.{View}
+use Rattle.sheet_ids.specs.declared.view.View.{View}
 
 -- a rectangle by its first row, its first column, its last row and its last column
 abbrev pub range_from : ℤ → ℤ → ℤ → ℤ → List ℤ

@@ -5,8 +5,8 @@ use Rattle.std.specs.Option.{option_eq, option_map, option_or}
 use Rattle.sheet_grid.specs.declared.SheetState.{SheetState}
 use Rattle.sheet_grid.specs.declared.SheetState.TheVariants.{Visible, Hidden, VeryHidden}
 use Rattle.sheet_grid.specs.Sheet.{Sheet}
-use Rattle.sheet_navigation.specs.declared.view.View.{View}
-use Rattle.sheet_navigation.specs.Views.{first_range}
+use Rattle.sheet_ids.specs.declared.view.View.{View}
+use Rattle.sheet_ids.specs.Views.{first_range}
 
 -- ---- the index that an edit selects
 

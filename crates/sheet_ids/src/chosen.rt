@@ -3,7 +3,7 @@
 ghost use Rattle.std.specs.Prelude.{◌≡◌, ◌<◌, length};
 ghost use Rattle.std.specs.List.{position};
 ghost use Rattle.std.specs.Option.{option_copied, option_map};
-ghost use Rattle.sheet_navigation.specs.Chosen.{id_of, id_at, is_shown, is_visible, next_visible, selected_after_delete, last_index, range_of, viewed};
+ghost use Rattle.sheet_ids.specs.Chosen.{id_of, id_at, is_shown, is_visible, next_visible, selected_after_delete, last_index, range_of, viewed};
 
 use crate::view::View;
 use sheet_grid::{SheetState, Worksheet, sheet_at};

@@ -169,6 +169,11 @@ impl<R: Recalc + Drop> UserModel<R> {
     /// `StylesShape` where there is no row, the first one is empty, rows differ in length, or a font has
     /// a size below 1, else `InvalidArea` where the rectangle reaches outside the sheet, else `NoMemory`
     /// where there is not enough. An error changes nothing.
+    ///
+    /// ```
+    /// model.set_selected_range(2, 2, 3, 4)?;
+    /// model.on_paste_styles(&copied)?;
+    /// ```
     pub fn on_paste_styles(&mut self, styles: &[Vec<Style>]) -> Result<(), EditError>
         ensures next { Steps result self.old.document self.new.document (pasted_edit (map (λ row. row.items) styles.now)) }
         ensures refusals { IfErr result (λ error. error ≢ NoMemory → IsPasteRefusal error) }

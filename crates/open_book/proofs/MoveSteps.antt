@@ -8,7 +8,7 @@ use Rattle.base_values.specs.Answers.{and_then, map_ok, ok_or}
 use Rattle.base_axis.specs.Along.{Along, IsAxis}
 use Rattle.line_edits.specs.declared.EditKind.{EditKind}
 use Rattle.line_edits.specs.declared.EditKind.TheVariants.{Move}
-use Rattle.line_edits.specs.Edit.{is_valid, is_within}
+use Rattle.line_edits.specs.Edit.{is_valid, begins_inside}
 use Rattle.sheet_grid.specs.Sheet.{Sheet}
 use Rattle.sheet_grid.specs.Book.{Book, sheet_at}
 use Rattle.sheet_rules.specs.WellFormed.{IsWellFormed}
@@ -32,7 +32,7 @@ use Rattle.open_book.proofs.LineSteps.{lines_go_both_ways, refused_document}
 -- ---- a distance that no number of the code has
 
 far_invalid : (last first count delta : ℤ) → last ≤ℤ pos 1048576 → is_far delta ≡ true
-    → ((is_within last first count && int_le (first +ℤ count) (last +ℤ pos 1)) && (int_le (pos 1) (first +ℤ delta) && int_le ((first +ℤ count) +ℤ delta) (last +ℤ pos 1))) ≡ false
+    → ((begins_inside last first count && int_le (first +ℤ count) (last +ℤ pos 1)) && (int_le (pos 1) (first +ℤ delta) && int_le ((first +ℤ count) +ℤ delta) (last +ℤ pos 1))) ≡ false
 far_invalid last first count delta low far = grind (arith, ints)
 
 -- a move so far is refused

@@ -14,7 +14,7 @@ use Rattle.sheet_grid.specs.Sheet.{Sheet}
 use Rattle.sheet_grid.specs.Book.{Book, sheet_at}
 use Rattle.line_edits.specs.declared.EditKind.{EditKind}
 use Rattle.line_edits.specs.declared.EditKind.TheVariants.{Insert, Delete, Move}
-use Rattle.line_edits.specs.Edit.{IsValid, is_valid, is_within}
+use Rattle.line_edits.specs.Edit.{IsValid, is_valid, begins_inside}
 use Rattle.sheet_ids.specs.Ids.{sheet_of}
 use Rattle.sheet_actions.specs.GreatestLine.{greatest_line}
 use Rattle.sheet_actions.specs.laws.GreatestLaws.{at_least_one}
@@ -53,10 +53,10 @@ failed [] h = tt
 failed ((true, refusal) ∷ tests) h = absurd (let never : ◌≡◌ {A = Option EditError} (Some refusal) None = h in cc)
 failed ((false, refusal) ∷ tests) h = (refl, failed tests h)
 
-within_insert : (last g first count : ℤ) → pos 1 ≤ℤ g → int_lt count (pos 1) ≡ false → not (is_line last first) ≡ false → int_lt last (g +ℤ count) ≡ false → is_within last first count ≡ true
+within_insert : (last g first count : ℤ) → pos 1 ≤ℤ g → int_lt count (pos 1) ≡ false → not (is_line last first) ≡ false → int_lt last (g +ℤ count) ≡ false → begins_inside last first count ≡ true
 within_insert last g first count low few on near = grind (arith, ints)
 
-within_delete : (last first count : ℤ) → int_lt count (pos 1) ≡ false → not (is_line last first) ≡ false → int_lt last (last_of first count) ≡ false → is_within last first count ≡ true
+within_delete : (last first count : ℤ) → int_lt count (pos 1) ≡ false → not (is_line last first) ≡ false → int_lt last (last_of first count) ≡ false → begins_inside last first count ≡ true
 within_delete last first count few on near = grind (arith, ints)
 
 not_false : (b : Bool) → not b ≡ false → b ≡ true

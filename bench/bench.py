@@ -1,8 +1,8 @@
 #!/usr/bin/env python3
 """Times the built programs on inputs of two sizes, and prints how the times grow.
 
-Run ./run once before, and `rt run <stdin` in crates/bench_formulas and crates/bench_lines, so that the
-programs are built. The second input of each pair is ten times as long; the aim is that it takes at
+Run ./run once before, and `rt run <stdin` in crates/bench_formulas, crates/bench_lines and
+crates/bench_bytes, so that the programs are built. The second input of each pair is ten times as long; the aim is that it takes at
 most 25 times as long, and 30 times where lines are edited by themselves.
 The memory is the greatest resident set of the run.
 """
@@ -17,6 +17,7 @@ TOP = os.path.dirname(os.path.dirname(os.path.abspath(__file__)))
 EDITOR = os.path.join(TOP, "crates", "edit_script", "out", "edit_script")
 PRINTER = os.path.join(TOP, "crates", "bench_formulas", "out", "bench_formulas")
 LINES = os.path.join(TOP, "crates", "bench_lines", "out", "bench_lines")
+BYTES = os.path.join(TOP, "crates", "bench_bytes", "out", "bench_bytes")
 SMALL, LARGE = 10_000, 100_000
 FEW, MANY = 1_000, 10_000
 ROUNDS = 200
@@ -25,7 +26,9 @@ AIM = 25
 LINE_ROUNDS = 5
 RECORDED_ROUNDS = 20
 LINE_AIM = 30
+BYTE_ROUNDS = 20
 CLEARINGS = ("clear", "clear-contents", "clear-formatting")
+BYTE_TASKS = ("encode-numbers", "decode-numbers", "encode-formulas", "decode-formulas")
 LINE_EDITS = ("insert-rows", "insert-columns", "move-rows", "move-columns")
 
 
@@ -180,6 +183,26 @@ def line_edits(times, rounds, what, aim):
     return fast
 
 
+def byte_times(task, count):
+    """The seconds in which the bytes of a workbook of so many cells are written once, or opened, and how many they are."""
+    built, _, _ = run(BYTES, [f"{task} {count} 0"])
+    seconds, output, _ = run(BYTES, [f"{task} {count} {BYTE_ROUNDS}"])
+    return (seconds - built) / BYTE_ROUNDS, int(output)
+
+
+def workbook_bytes():
+    """How the times of writing and of opening the bytes of a workbook grow."""
+    fast = True
+    for task in BYTE_TASKS:
+        (small, _), (large, length) = byte_times(task, SMALL), byte_times(task, LARGE)
+        ratio = large / small
+        state = "ok" if ratio <= AIM else "TOO SLOW"
+        print(f"{task}: {SMALL} cells in {small:.4f} s, {LARGE} in {large:.4f} s, ratio {ratio:.1f} (at most {AIM}: {state})")
+        print(f"  {length / large / 1e6:.1f} million bytes a second, {length / LARGE:.0f} bytes a cell")
+        fast = fast and ratio <= AIM
+    return fast
+
+
 def shares(formula_seconds):
     """How the time of a set and a get of a formula is shared out, against a text of the same length."""
     text_seconds, _, _ = run(EDITOR, texts(LARGE))
@@ -207,6 +230,8 @@ def main():
         sys.exit("bench: build the printing program first, by `rt run <stdin` in crates/bench_formulas")
     if not os.path.exists(LINES):
         sys.exit("bench: build the program of line edits first, by `rt run <stdin` in crates/bench_lines")
+    if not os.path.exists(BYTES):
+        sys.exit("bench: build the program of bytes first, by `rt run <stdin` in crates/bench_bytes")
     seconds, _, memory, fast = pair("sets", sets)
     print(f"  {seconds / LARGE * 1e9:.0f} ns an edit, at most {memory / LARGE:.0f} bytes a set cell in all")
     _, _, _, fast_back = pair("sets, undos and redos", all_and_back)
@@ -224,8 +249,9 @@ def main():
     # (last, as the memory told above is that of the greatest run so far)
     fast_lines = line_edits(edit_times, LINE_ROUNDS, "by itself", LINE_AIM)
     fast_records = line_edits(recorded_times, RECORDED_ROUNDS, "through the user model", AIM)
+    fast_bytes = workbook_bytes()
     scripts = [fast, fast_back, fast_sync, fast_set, fast_drawn, fast_read, fast_records]
-    programs = [fast_print, fast_names, fast_lines]
+    programs = [fast_print, fast_names, fast_lines, fast_bytes]
     sys.exit(0 if all(scripts + programs + fast_ranges) else 1)
 
 

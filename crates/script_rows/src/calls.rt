@@ -3,6 +3,7 @@ use crate::bytes::answer_bytes;
 use crate::edits::answer_edit;
 use crate::questions::ask;
 use crate::saved::{answer_opened, push_saved};
+use crate::twins::{answer_tried, repeat};
 use base_values::EditError;
 use script_dump::push_line;
 use std::alloc::Global;
@@ -30,15 +31,17 @@ fn answer_question(
     }
 }
 
+/// Makes a call on a model and on its twin, and answers it. What is asked is asked of the model alone.
 fn answer(
     alloc: Global,
     out: &mut Vec<u8>,
     model: &mut Model,
+    twin: &mut Model,
     line: &str,
 ) -> Result<(), EditError> {
     let (call, text) = line.split_once(' ').unwrap_or((line, ""));
     if answer_edit(alloc, out, model, call, text)? {
-        return Ok(());
+        return repeat(alloc, twin, call, text);
     }
     answer_question(alloc, out, model, call, text)
 }
@@ -47,19 +50,41 @@ fn answer_all(
     alloc: Global,
     out: &mut Vec<u8>,
     model: &mut Model,
+    twin: &mut Model,
     calls: &str,
 ) -> Result<(), EditError> {
     for line in calls.lines() {
-        answer(alloc, out, model, line)?;
+        match line.strip_prefix("! ") {
+            Some(tried) => answer_tried(alloc, out, model, twin, tried)?,
+            None => answer(alloc, out, model, twin, line)?,
+        }
     }
     Ok(())
 }
 
-/// What a new model answers to calls, a line each.
+fn new_model(alloc: Global) -> Result<Model, EditError> {
+    UserModel::new_empty(alloc, "workbook", "en", "UTC", "en", ClearAll)
+}
+
+fn answer_with_twin(
+    alloc: Global,
+    out: &mut Vec<u8>,
+    model: &mut Model,
+    calls: &str,
+) -> Result<(), EditError> {
+    let mut twin = new_model(alloc)?;
+    match answer_all(alloc, out, model, &mut twin, calls) {
+        Ok(()) => Ok(()),
+        Err(error) => Err(error),
+    }
+}
+
+/// What a new model answers to calls, a line each. A line that begins with `! ` is a call on it alone, and
+/// the others are made on a second model too.
 pub(crate) fn run_calls(alloc: Global, calls: &str) -> Result<Vec<u8>, EditError> {
     let mut out = Vec::new(alloc);
-    let mut model = UserModel::new_empty(alloc, "workbook", "en", "UTC", "en", ClearAll)?;
-    match answer_all(alloc, &mut out, &mut model, calls) {
+    let mut model = new_model(alloc)?;
+    match answer_with_twin(alloc, &mut out, &mut model, calls) {
         Ok(()) => Ok(out),
         Err(error) => Err(error),
     }

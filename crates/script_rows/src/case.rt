@@ -9,7 +9,8 @@ const NEW_COPY: &str = "copy\nbook en UTC workbook\nsheet 1 visible 1 0 0 - Shee
 pub(crate) struct Case<'a> {
     pub(crate) name: &'a str,
     pub(crate) script: Vec<u8>,
-    /// Calls, a line each. A case with calls has no script.
+    /// Calls, a line each, behind `! ` where they are made on one of two models alone. A case with calls
+    /// has no script.
     pub(crate) calls: Vec<u8>,
     /// Whether the last line of the script has no line feed.
     pub(crate) is_unended: bool,
@@ -32,6 +33,7 @@ enum Setting {
     Reads,
     Writes,
     Blanks,
+    Feeds,
     Status,
 }
 
@@ -81,6 +83,7 @@ impl<'a> Case<'a> {
             "reads" => Setting::Reads,
             "writes" => Setting::Writes,
             "blanks" => Setting::Blanks,
+            "feeds" => Setting::Feeds,
             "status" => Setting::Status,
             "unended" => {
                 self.is_unended = true;
@@ -99,6 +102,7 @@ impl<'a> Case<'a> {
             Setting::Reads => self.reads.push(number)?,
             Setting::Writes => self.writes.push(number)?,
             Setting::Blanks => self.script.resize(number as usize, b' ')?,
+            Setting::Feeds => self.script.resize(number as usize, b'\n')?,
             Setting::Status => self.status = number,
         }
         Ok(())
@@ -112,11 +116,17 @@ impl<'a> Case<'a> {
             [b'>', b' ', line @ ..] => push_line(&mut self.script, line),
             [b'<', b' ', line @ ..] => self.want(line),
             [b'!', b' ', line @ ..] => push_line(&mut self.calls, line),
+            [b'!', b'!', b' ', line @ ..] => self.try_call(line),
             _ => {
                 self.is_misread = true;
                 Ok(())
             }
         }
+    }
+
+    fn try_call(&mut self, line: &[u8]) -> Result<(), AllocError> {
+        self.calls.extend_from_slice(b"! ")?;
+        push_line(&mut self.calls, line)
     }
 
     fn want(&mut self, line: &[u8]) -> Result<(), AllocError> {

@@ -3,6 +3,7 @@
 #![tactic(auto)]
 
 mod answers;
+mod areas;
 mod bytes;
 mod calls;
 mod case;
@@ -11,7 +12,9 @@ mod edits;
 mod hex;
 mod questions;
 mod rows;
+mod rules;
 mod saved;
+mod twins;
 mod verdict;
 mod words;
 

@@ -37,6 +37,11 @@ impl<'a> Words<'a> {
         self.word().parse::<u32>().unwrap_or(u32::MAX)
     }
 
+    /// The next word as the index of a rule, and the greatest number where it is none.
+    pub(crate) fn index(&mut self) -> u64 {
+        self.word().parse::<u64>().unwrap_or(u64::MAX)
+    }
+
     /// The next word as a sheet's index, and none where it is a dash.
     pub(crate) fn scope(&mut self) -> Option<u32> {
         self.word().parse::<u32>().ok()

@@ -32,7 +32,6 @@ enum Setting {
     None,
     Reads,
     Writes,
-    Blanks,
     Feeds,
     Status,
 }
@@ -82,7 +81,6 @@ impl<'a> Case<'a> {
         match word {
             "reads" => Setting::Reads,
             "writes" => Setting::Writes,
-            "blanks" => Setting::Blanks,
             "feeds" => Setting::Feeds,
             "status" => Setting::Status,
             "unended" => {
@@ -101,7 +99,6 @@ impl<'a> Case<'a> {
             Setting::None => self.is_misread = true,
             Setting::Reads => self.reads.push(number)?,
             Setting::Writes => self.writes.push(number)?,
-            Setting::Blanks => self.script.resize(number as usize, b' ')?,
             Setting::Feeds => self.script.resize(number as usize, b'\n')?,
             Setting::Status => self.status = number,
         }

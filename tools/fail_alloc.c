@@ -1,8 +1,8 @@
 /* A shim that refuses memory, for tools/refuse_allocations: cc -shared -fPIC fail_alloc.c -o fail_alloc.so, loaded by LD_PRELOAD.
  *
  * It counts the calls of malloc and realloc that ask for something, from 1. Where FAIL_FOLDER names a folder, then at each call from
- * FAIL_FIRST to FAIL_LAST (all, if not told) two children go on in the program's place, one after the other: to one that call is refused, to
- * the other that one and the seven behind it. A child writes into a file of its own. Where it ends with status 5 and wrote nothing,
+ * FAIL_FIRST to FAIL_LAST (all, if not told; with FAIL_EVERY at each so-manieth of these) two children go on in the program's place, one after
+ * the other: to one that call is refused, to the other that one and the seven behind it. A child writes into a file of its own. Where it ends with status 5 and wrote nothing,
  * it is counted and the file goes; else the file NUMBER.LENGTH stays in the folder, and the file `ended` there gets a line with the
  * number of the call, how many were refused, and the status, or -1 where the child was killed. The program itself is refused nothing. At
  * its end `ended` gets a last line: `all`, how many calls there were, and how many children were counted.
@@ -22,7 +22,7 @@ extern void *__libc_malloc(size_t size);
 extern void *__libc_realloc(void *old, size_t size);
 
 static const char *folder;
-static unsigned long count, first, last, counted;
+static unsigned long count, first, last, every, counted;
 static unsigned long refused_to; /* in a child the last call that is refused, and 0 in the program itself */
 static int ended = -1;
 
@@ -35,6 +35,7 @@ __attribute__((constructor)) static void begin(void) {
     char path[4096];
     first = number_in("FAIL_FIRST", 1);
     last = number_in("FAIL_LAST", -1UL);
+    every = number_in("FAIL_EVERY", 1);
     folder = getenv("FAIL_FOLDER");
     if (folder) {
         snprintf(path, sizeof path, "%s/ended", folder);
@@ -75,10 +76,12 @@ static int goes_on_without(unsigned long length) {
     return 0;
 }
 
+static int is_tried(void) { return ended >= 0 && refused_to == 0 && first <= count && count <= last && (count - first) % every == 0; }
+
 static int is_refused(size_t size) {
     if (size == 0) return 0;
     count++;
-    if (ended >= 0 && refused_to == 0 && first <= count && count <= last) (void)(goes_on_without(1) || goes_on_without(8));
+    if (is_tried()) (void)(goes_on_without(1) || goes_on_without(8));
     if (count > refused_to) return 0;
     errno = ENOMEM;
     return 1;

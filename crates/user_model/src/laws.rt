@@ -17,7 +17,6 @@ use std::alloc::Global;
 /// ```
 /// let copy = opened_again(alloc, &model, "en", ClearAll)?;
 /// ```
-#[tactic(auto, using(crate::proofs::Saved::opened_equal, crate::proofs::Saved::opened_only))]
 pub fn opened_again<R: Recalc + Drop, S: Recalc + Drop>(
     alloc: Global,
     model: &UserModel<R>,
